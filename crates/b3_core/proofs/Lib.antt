@@ -1,0 +1,5 @@
+pub mod Lists
+pub mod Blocks
+pub mod Subtrees
+pub mod ChunkNodes
+pub mod Vectors
