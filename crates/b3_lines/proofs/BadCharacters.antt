@@ -1,0 +1,153 @@
+-- NUL and U+FFFD in names.
+use Rattle.std.proofs.Common.{◌≡◌, ℕ, zero, suc, Bool, true, false, ◌||◌, ◌&&◌, ◌==◌, List, [], ◌∷◌, map, take, drop, slice_index, Option, Some, None, is_some, suc-add, zero-add, refl, sym, ap, ◌∙◌, arith, inl, inr}
+use Rattle.std.specs.List.{flat_map, list_any, starts_with}
+use Rattle.std.specs.Prelude.{nat_eq}
+use Rattle.std.specs.Cmp.Lexicographic.{pointwise}
+use Rattle.std.proofs.lemmas.Bool.{false_from_ne_true, or_cases, or_left, or_right}
+use Rattle.std.proofs.lemmas.Bool.Decides.{Decides-eqb}
+use Rattle.std.proofs.lemmas.List.Folds.{list_any_at, list_any_none}
+use Rattle.std.proofs.lemmas.List.{get_or_default}
+use Rattle.std.proofs.lemmas.List.Prefix.{front_fits, front_from_reads, front_reads}
+use Rattle.std.proofs.lemmas.Slice.Eq.{starts_is}
+use Rattle.memchr.specs.Find.{FindsNeedle, IsFirstByte, OccursAt}
+use Rattle.b3_lines.specs.Names.{Piece, Spells, backslash, carriage_return, has_bad_escape, holds_bad_character, holds_replacement, itself, line_feed, meaning, replacement, spelling, unescaped}
+use Rattle.b3_lines.specs.Reading.{name_of}
+use Rattle.b3_lines.proofs.Escapes.{Spells-from_lawful}
+
+-- ---- as a search finds them
+
+-- a search for a byte finds one where the list has one
+pub is_some-IsFirstByte : (p : ℕ → Bool) (s : List ℕ) (r : Option ℕ) → IsFirstByte p s r → is_some r ≡ list_any p s
+is_some-IsFirstByte p s None none =
+    sym (list_any_none p s (λ k d within. rw (get_or_default s k d 0 within) (false_from_ne_true _ (none k (omega arith) within))))
+is_some-IsFirstByte p s (Some k) found = sym (list_any_at p s k 0 found.0.high found.1)
+
+-- the test at a byte and what follows it
+holds_replacement-cons : (b : ℕ) (s : List ℕ) → holds_replacement (b ∷ s) ≡ (starts_with nat_eq (b ∷ s) replacement || holds_replacement s)
+unfolding holds_replacement
+holds_replacement-cons b s = refl
+
+-- nothing holds U+FFFD in no bytes
+holds_replacement-nil : holds_replacement [] ≡ false
+unfolding holds_replacement
+holds_replacement-nil = refl
+
+-- U+FFFD in front is what the test tells
+starts-from_occurs : (s : List ℕ) → OccursAt s replacement 0 → starts_with nat_eq s replacement ≡ true
+starts-from_occurs s occurs =
+    (starts_is Decides-eqb s replacement (starts_with nat_eq s replacement) refl).1 (drop 3 s)
+    (front_from_reads 0 s replacement occurs.fits (λ j within. ap (slice_index s) (sym (zero-add j)) ∙ occurs.reads j within))
+
+-- and back
+occurs-from_starts : (s : List ℕ) → starts_with nat_eq s replacement ≡ true → OccursAt s replacement 0
+occurs-from_starts s starts =
+    let front = (starts_is Decides-eqb s replacement (starts_with nat_eq s replacement) refl).0 starts in
+    record {
+      fits = front_fits s replacement (drop 3 s) front;
+      reads = λ j within. ap (slice_index s) (zero-add j) ∙ front_reads 0 s replacement (drop 3 s) front j within;
+    }
+
+-- one place further
+occurs-cons : (b : ℕ) (s : List ℕ) (k : ℕ) → OccursAt s replacement k → OccursAt (b ∷ s) replacement (suc k)
+occurs-cons b s k occurs = record { fits = omega (arith, occurs.fits); reads = λ j within. rw (suc-add k j) (occurs.reads j within) }
+
+-- and one place back
+occurs-tail : (b : ℕ) (s : List ℕ) (k : ℕ) → OccursAt (b ∷ s) replacement (suc k) → OccursAt s replacement k
+occurs-tail b s k occurs = record { fits = omega (arith, occurs.fits); reads = λ j within. rw (suc-add k j) at (occurs.reads j within) }
+
+-- where U+FFFD stands somewhere, the text holds it
+holds-from_occurs : (s : List ℕ) (k : ℕ) → OccursAt s replacement k → holds_replacement s ≡ true
+holds-from_occurs [] k occurs = absurd (omega (arith, occurs.fits))
+holds-from_occurs (b ∷ s) zero occurs =
+    holds_replacement-cons b s ∙ or_left _ (holds_replacement s) (starts-from_occurs (b ∷ s) occurs)
+holds-from_occurs (b ∷ s) (suc k) occurs =
+    holds_replacement-cons b s ∙ or_right (starts_with nat_eq (b ∷ s) replacement) _ (holds-from_occurs s k (occurs-tail b s k occurs))
+
+-- where the text holds U+FFFD, it stands somewhere
+occurs-from_holds : (s : List ℕ) → holds_replacement s ≡ true → (k : ℕ) × OccursAt s replacement k
+occurs-from_holds [] holds = cc (sym holds_replacement-nil ∙ holds)
+occurs-from_holds (b ∷ s) holds =
+    elim (or_cases (starts_with nat_eq (b ∷ s) replacement) (holds_replacement s) (sym (holds_replacement-cons b s) ∙ holds)) [
+      | inl here ↦ (0, occurs-from_starts (b ∷ s) here)
+      | inr later ↦
+          let found = occurs-from_holds s later in
+          (suc found.0, occurs-cons b s found.0 found.1)
+    ]
+
+-- a search for U+FFFD finds it where the text holds it
+pub is_some-FindsNeedle : (s : List ℕ) (r : Option ℕ) → FindsNeedle s replacement 0 r → is_some r ≡ holds_replacement s
+is_some-FindsNeedle s None none =
+    sym (false_from_ne_true (holds_replacement s) (λ holds.
+    let found = occurs-from_holds s holds in
+    none found.0 (omega arith) (omega (arith, found.1.fits)) found.1))
+is_some-FindsNeedle s (Some k) found = sym (holds-from_occurs s k found.1)
+
+-- both searches
+pub holds_bad_character-first : (s : List ℕ) → list_any (λ b. b == 0) s ≡ true → holds_bad_character s ≡ true
+unfolding holds_bad_character
+holds_bad_character-first s nul = or_left _ (holds_replacement s) nul
+
+-- without NUL the second search decides
+pub holds_bad_character-second : (s : List ℕ) → list_any (λ b. b == 0) s ≡ false → holds_bad_character s ≡ holds_replacement s
+unfolding holds_bad_character
+holds_bad_character-second s no_nul = ap (λ b. b || holds_replacement s) no_nul
+
+-- ---- in an escaped name
+
+-- whether the last byte of U+FFFD, and its last two, stand in front
+ends_one : (pieces : List Piece) → pointwise nat_eq (0xBD ∷ []) (take 1 (flat_map spelling pieces)) ≡ pointwise nat_eq (0xBD ∷ []) (take 1 (map meaning pieces))
+ends_one [] = refl
+ends_one (backslash ∷ pieces) = refl
+ends_one (line_feed ∷ pieces) = refl
+ends_one (carriage_return ∷ pieces) = refl
+ends_one (itself b other ∷ pieces) = refl
+
+-- the last two bytes
+ends_two : (pieces : List Piece) → pointwise nat_eq (0xBF ∷ 0xBD ∷ []) (take 2 (flat_map spelling pieces)) ≡ pointwise nat_eq (0xBF ∷ 0xBD ∷ []) (take 2 (map meaning pieces))
+ends_two [] = refl
+ends_two (backslash ∷ pieces) = refl
+ends_two (line_feed ∷ pieces) = refl
+ends_two (carriage_return ∷ pieces) = refl
+ends_two (itself b other ∷ pieces) = ap (λ t. nat_eq 0xBF b && t) (ends_one pieces)
+
+-- pieces hold U+FFFD where what they stand for does
+holds_replacement-pieces : (pieces : List Piece) → holds_replacement (flat_map spelling pieces) ≡ holds_replacement (map meaning pieces)
+unfolding holds_replacement
+holds_replacement-pieces [] = refl
+holds_replacement-pieces (backslash ∷ pieces) = holds_replacement-pieces pieces
+holds_replacement-pieces (line_feed ∷ pieces) = holds_replacement-pieces pieces
+holds_replacement-pieces (carriage_return ∷ pieces) = holds_replacement-pieces pieces
+holds_replacement-pieces (itself b other ∷ pieces) =
+    ap (λ t. (nat_eq 0xEF b && t) || holds_replacement (flat_map spelling pieces)) (ends_two pieces)
+    ∙ ap (λ t. (nat_eq 0xEF b && pointwise nat_eq (0xBF ∷ 0xBD ∷ []) (take 2 (map meaning pieces))) || t) (holds_replacement-pieces pieces)
+
+-- pieces hold NUL where what they stand for does
+holds_nul-pieces : (pieces : List Piece) → list_any (λ b. b == 0) (flat_map spelling pieces) ≡ list_any (λ b. b == 0) (map meaning pieces)
+holds_nul-pieces [] = refl
+holds_nul-pieces (backslash ∷ pieces) = holds_nul-pieces pieces
+holds_nul-pieces (line_feed ∷ pieces) = holds_nul-pieces pieces
+holds_nul-pieces (carriage_return ∷ pieces) = holds_nul-pieces pieces
+holds_nul-pieces (itself b other ∷ pieces) = ap (λ t. (b == 0) || t) (holds_nul-pieces pieces)
+
+-- what pieces spell holds a bad character where they stand for one
+holds_bad_character-pieces : (pieces : List Piece) → holds_bad_character (flat_map spelling pieces) ≡ holds_bad_character (map meaning pieces)
+unfolding holds_bad_character
+holds_bad_character-pieces pieces =
+    ap (λ t. t || holds_replacement (flat_map spelling pieces)) (holds_nul-pieces pieces)
+    ∙ ap (λ t. list_any (λ b. b == 0) (map meaning pieces) || t) (holds_replacement-pieces pieces)
+
+-- a text holds a bad character where the name that it spells does
+pub holds_bad_character-Spells : (text name : List ℕ) → Spells text name → holds_bad_character text ≡ holds_bad_character name
+holds_bad_character-Spells text name spells =
+    ap holds_bad_character spells.1 ∙ holds_bad_character-pieces spells.0 ∙ sym (ap holds_bad_character spells.2)
+
+-- no bytes hold no bad character
+pub holds_bad_character-nil : holds_bad_character [] ≡ false
+unfolding holds_bad_character holds_replacement
+holds_bad_character-nil = refl
+
+-- taking escapes back neither hides a bad character nor makes one
+pub holds_bad_character-name_of : (marked : Bool) (spelled : List ℕ) → (marked && has_bad_escape spelled) ≡ false
+    → holds_bad_character (name_of marked spelled) ≡ holds_bad_character spelled
+holds_bad_character-name_of false spelled lawful = refl
+holds_bad_character-name_of true spelled lawful = sym (holds_bad_character-Spells spelled (unescaped spelled) (Spells-from_lawful spelled lawful))

@@ -1,0 +1,87 @@
+-- The digits of a digest, and the spaces behind them.
+use Rattle.std.proofs.Common.{◌≡◌, ℕ, ◌≤◌, true, false, not, List, ◌++◌, length, take, drop, slice_index, Result, Ok, Err, refl, subst, sym, ap, ◌∙◌, arith, append_assoc}
+use Rattle.std.specs.Prelude.{IsCharBoundary, IsOk, IsUtf8, bytes_eq, nat_eq}
+use Rattle.std.specs.List.{AllPass, list_all}
+use Rattle.std.proofs.lemmas.Bool.{false_from_ne_true, not-false}
+use Rattle.std.proofs.lemmas.Str.{IsCharBoundary-after_ascii}
+use Rattle.std.specs.Cmp.Lexicographic.{pointwise}
+use Rattle.std.proofs.lemmas.List.{drop-drop, drop_at, get_or-drop, get_or-take, take-append-drop, take_at}
+use Rattle.std.proofs.lemmas.List.Recursion.{and_at, and_from_places}
+use Rattle.std.proofs.lemmas.Slice.Eq.{bytes_eq-Decides}
+use Rattle.hex.specs.declared.error.FromHexError.{FromHexError}
+use Rattle.hex.specs.Hex.{decode_of, decode_sized, is_hex_digit}
+use Rattle.hex.proofs.HexLemmas.{IsOk-decode_sized, decode_of-digits, decode_sized-twice}
+use Rattle.b3_lines.specs.Writing.{spaces}
+use Rattle.b3_lines.proofs.Refusals.{IsSpaced}
+
+-- the test of each digit, as a computation
+pub list_all-AllPass : (s : List ℕ) → AllPass is_hex_digit s → list_all is_hex_digit s ≡ true
+list_all-AllPass s each = and_from_places (list_all is_hex_digit) is_hex_digit refl (λ _ _. refl) s 0 (λ i within. each i 0 within)
+
+-- and back
+pub AllPass-list_all : (s : List ℕ) → list_all is_hex_digit s ≡ true → AllPass is_hex_digit s
+AllPass-list_all s each i d within = and_at (list_all is_hex_digit) is_hex_digit refl (λ _ _. refl) s i d within each
+
+-- a result that is `Ok x` is `Ok`
+IsOk-from_ok : {A E : Type 0} (r : Result A E) (x : A) → r ≡ Ok x → IsOk r
+IsOk-from_ok r x is = rw is refl
+
+-- 64 bytes that decode are digits
+pub digits-from_ok : (s digest : List ℕ) → decode_sized s 32 ≡ Ok digest → (list_all is_hex_digit s ≡ true) × (decode_of s ≡ Ok digest)
+digits-from_ok s digest ok =
+    let parts = (IsOk-decode_sized s 32).0 (IsOk-from_ok _ digest ok) in
+    (list_all-AllPass s parts.1, sym (decode_sized-twice s 32 parts.0) ∙ ok)
+
+-- and 64 that do not decode are not
+pub digits-from_err : (s : List ℕ) (e : FromHexError) → length s ≡ 64 → decode_sized s 32 ≡ Err e → list_all is_hex_digit s ≡ false
+digits-from_err s e count err =
+    false_from_ne_true _ (λ each.
+    let ok = (IsOk-decode_sized s 32).1 (count, AllPass-list_all s each) in
+    let no : IsOk {T = List ℕ} (Err e) = rw err at ok in
+    cc no)
+
+-- 64 digits decode to one digest
+pub digest-from_digits : (s : List ℕ) → length s ≡ 64 → list_all is_hex_digit s ≡ true → (digest : List ℕ) × (decode_of s ≡ Ok digest)
+digest-from_digits s count each = decode_of-digits s (omega arith) (AllPass-list_all s each)
+
+-- 64 digits, two spaces and a name, cut up
+pub cut-digits : (digits name : List ℕ) → length digits ≡ 64 → take 64 (digits ++ spaces ++ name) ≡ digits
+cut-digits digits name count = rw append_assoc (take_at digits (spaces ++ name) 64 count)
+
+-- what stands behind the digits
+pub cut-rest : (digits name : List ℕ) → length digits ≡ 64 → drop 64 (digits ++ spaces ++ name) ≡ spaces ++ name
+cut-rest digits name count = rw append_assoc (drop_at digits (spaces ++ name) 64 count)
+
+-- what stands behind the spaces
+pub cut-name : (digits name : List ℕ) → length digits ≡ 64 → drop 66 (digits ++ spaces ++ name) ≡ name
+cut-name digits name count =
+    let further = drop-drop 2 64 (digits ++ spaces ++ name) in
+    sym further ∙ ap (drop 2) (cut-rest digits name count)
+
+-- what has digits and two spaces in front is put together of them
+pub join-spaced : (rest : List ℕ) → bytes_eq (take 2 (drop 64 rest)) spaces ≡ true → rest ≡ take 64 rest ++ spaces ++ drop 66 rest
+join-spaced rest spaced =
+    let two = (bytes_eq-Decides (take 2 (drop 64 rest)) spaces).0 spaced in
+    let behind : drop 2 (drop 64 rest) ≡ drop 66 rest = drop-drop 2 64 rest in
+    let tail : drop 64 rest ≡ spaces ++ drop 66 rest = sym (take-append-drop 2 (drop 64 rest)) ∙ ap (λ t. t ++ drop 2 (drop 64 rest)) two ∙ ap (λ t. spaces ++ t) behind in
+    sym (take-append-drop 64 rest) ∙ ap (λ t. take 64 rest ++ t) tail ∙ sym (append_assoc (take 64 rest) spaces (drop 66 rest))
+
+-- what is read of the bytes that follow the mark, where their digits and their spaces are right
+pub IsSpaced-from_reads : (rest bytes two digest : List ℕ) → bytes ≡ rest → 66 ≤ length bytes → Ok digest ≡ decode_sized (take 64 bytes) 32
+    → two ≡ spaces → false ≡ not (pointwise nat_eq (take 2 (drop 64 bytes)) two) → IsSpaced rest
+IsSpaced-from_reads rest bytes two digest same long ok two_is spaced =
+    let read : IsSpaced bytes = record {
+      long = long;
+      digits = (digits-from_ok (take 64 bytes) digest (sym ok)).0;
+      spaced = ap (pointwise nat_eq (take 2 (drop 64 bytes))) (sym two_is) ∙ not-false _ (sym spaced);
+    } in
+    subst IsSpaced same read
+
+-- the byte before the name is a space, where a text may be cut
+pub IsCharBoundary-name : (rest : List ℕ) → IsUtf8 rest → IsSpaced rest → IsCharBoundary rest 66
+IsCharBoundary-name rest utf8 spaced =
+    let long = spaced.long in
+    let two = (bytes_eq-Decides (take 2 (drop 64 rest)) spaces).0 spaced.spaced in
+    let space : slice_index rest 65 ≡ 32 =
+    sym (get_or-drop 64 rest 1 0) ∙ sym (get_or-take 2 (drop 64 rest) 1 0 (omega arith)) ∙ ap (λ t. slice_index t 1) two in
+    IsCharBoundary-after_ascii rest 65 utf8 (omega (arith, long)) (omega (arith, space))

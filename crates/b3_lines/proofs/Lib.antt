@@ -1,0 +1,10 @@
+pub mod BadCharacters
+pub mod Digits
+pub mod Escapes
+pub mod Marks
+pub mod Outcomes
+pub mod ReadBack
+pub mod Refusals
+pub mod Results
+pub mod Texts
+pub mod Written

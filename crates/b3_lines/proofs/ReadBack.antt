@@ -1,0 +1,151 @@
+-- A line that was written reads back.
+use Rattle.std.proofs.Common.{◌≡◌, ◌≢◌, ℕ, ◌-◌, ◌<◌, true, false, ◌==◌, List, [], ◌∷◌, ◌++◌, length, slice_index, refl, sym, ap, subst, ◌∙◌, arith, inl, inr}
+use Rattle.std.specs.Prelude.{IsUtf8}
+use Rattle.std.specs.List.{list_any}
+use Rattle.std.proofs.lemmas.Bool.{both_ways, cases_Bool, cases_eq, cond-false, cond-true, false_from_ne_true, ne_eqb, or_from}
+use Rattle.std.proofs.lemmas.List.{get_or-append_right, length-append, nil_from_length}
+use Rattle.std.proofs.lemmas.List.Folds.{list_any-append, list_any_at}
+use Rattle.hex.specs.Hex.{IsBytes, encode_lower, lower_digits}
+use Rattle.hex.proofs.HexLemmas.{decode_of-encode_lower, length-encode_with}
+use Rattle.b3_lines.specs.Names.{unescaped, Piece, Spells, backslash, carriage_return, escape, escaped, holds_bad_character, is_escaped, itself, line_feed, meaning, spelling}
+use Rattle.b3_lines.specs.Reading.{AreDigits, Reads, without_return}
+use Rattle.b3_lines.specs.Writing.{is_marked, mark, plain_text, shown, spaces}
+use Rattle.b3_lines.proofs.Escapes.{Spells-unescaped, escape-itself, escaped-cons, escaped-nil, unescaped-nil}
+use Rattle.b3_lines.proofs.Refusals.{without_return-cond}
+use Rattle.b3_lines.proofs.Marks.{escaped-unmarked, shown-marked, shown-unmarked}
+use Rattle.b3_lines.proofs.Texts.{IsUtf8-plain}
+
+-- ---- the escaped name spells the name
+
+-- the piece that a byte is written as
+written_piece : (b : ℕ) → (piece : Piece) × (spelling piece ≡ escape b) × (meaning piece ≡ b)
+written_piece b =
+    elim (cases_eq b 92) [
+      | inl is ↦ rw is (backslash, refl, refl)
+      | inr not_backslash ↦
+          elim (cases_eq b 10) [
+            | inl is ↦ rw is (line_feed, refl, refl)
+            | inr not_feed ↦
+                elim (cases_eq b 13) [
+                  | inl is ↦ rw is (carriage_return, refl, refl)
+                  | inr not_return ↦
+                      let plain : is_escaped b ≡ false =
+                      or_from _ _ (or_from _ _ (ne_eqb b 92 not_backslash) (ne_eqb b 10 not_feed)) (ne_eqb b 13 not_return) in
+                      (itself b not_backslash, sym (escape-itself b plain), refl)
+                ]
+          ]
+    ]
+
+-- what is written spells the name
+pub Spells-escaped : (name : List ℕ) → Spells (escaped name) name
+Spells-escaped [] = ([], escaped-nil, refl)
+Spells-escaped (b ∷ name) =
+    let piece = written_piece b in
+    let later = Spells-escaped name in (
+      piece.0 ∷ later.0,
+      escaped-cons b name ∙ ap (λ t. t ++ escaped name) (sym piece.1) ∙ ap (λ t. spelling piece.0 ++ t) later.1,
+      ap (λ c. c ∷ name) (sym piece.2) ∙ ap (λ t. meaning piece.0 ∷ t) later.2,
+    )
+
+-- a name that is not empty is not written as nothing
+escaped-not_nil : (name : List ℕ) → name ≢ [] → escaped name ≢ []
+escaped-not_nil name some empty =
+    let spells = Spells-unescaped (escaped name) name (Spells-escaped name) in
+    some (spells.1 ∙ ap unescaped empty ∙ unescaped-nil)
+
+-- ---- no carriage return stands at the end
+
+-- no byte is written as a carriage return
+no_return-escape : (b : ℕ) → list_any (λ x. x == 13) (escape b) ≡ false
+no_return-escape b =
+    elim (cases_eq b 92) [
+      | inl is ↦ rw is refl
+      | inr not_backslash ↦
+          elim (cases_eq b 10) [
+            | inl is ↦ rw is refl
+            | inr not_feed ↦
+                elim (cases_eq b 13) [
+                  | inl is ↦ rw is refl
+                  | inr not_return ↦
+                      let plain : is_escaped b ≡ false =
+                      or_from _ _ (or_from _ _ (ne_eqb b 92 not_backslash) (ne_eqb b 10 not_feed)) (ne_eqb b 13 not_return) in
+                      rw (escape-itself b plain) (or_from (b == 13) false (ne_eqb b 13 not_return) refl)
+                ]
+          ]
+    ]
+
+-- nor is any byte of a name
+no_return-escaped : (name : List ℕ) → list_any (λ x. x == 13) (escaped name) ≡ false
+no_return-escaped [] = ap (list_any (λ x. x == 13)) escaped-nil
+no_return-escaped (b ∷ name) =
+    ap (list_any (λ x. x == 13)) (escaped-cons b name) ∙ list_any-append (λ x. x == 13) (escape b) (escaped name)
+    ∙ or_from _ _ (no_return-escape b) (no_return-escaped name)
+
+-- what ends in no carriage return is left as it is
+without_return-same : (front tail : List ℕ) → tail ≢ [] → list_any (λ x. x == 13) tail ≡ false → without_return (front ++ tail) ≡ front ++ tail
+without_return-same front tail some none =
+    let whole = front ++ tail in
+    let last = length whole - 1 in
+    let count = length-append front tail in
+    let filled : 0 < length tail = elim (cases_eq (length tail) 0) [ inl empty ↦ absurd (some (nil_from_length tail empty)) | inr more ↦ omega arith ] in
+    let in_tail = get_or-append_right front tail (length front) last 0 refl (omega (arith, count)) in
+    let no_return : (slice_index whole last == 13) ≡ false =
+    false_from_ne_true _ (λ is.
+    both_ways _ none
+    (list_any_at (λ x. x == 13) tail (last - length front) 0 (omega (arith, count)) (ap (λ x. x == 13) (sym in_tail) ∙ is))) in
+    without_return-cond whole ∙ cond-false _ _ _ no_return
+
+-- ---- reading back
+
+-- the digits of 32 bytes
+AreDigits-encode_lower : (digest : List ℕ) → length digest ≡ 32 → IsBytes digest → AreDigits (encode_lower digest) digest
+AreDigits-encode_lower digest count bytes =
+    let twice = length-encode_with lower_digits digest in
+    record { count = omega (arith, twice, count); value = decode_of-encode_lower digest bytes }
+
+-- a line that was written has no carriage return at its end
+without_return-plain : (digest name : List ℕ) → name ≢ [] → without_return (plain_text digest name) ≡ plain_text digest name
+unfolding plain_text
+without_return-plain digest name some =
+    without_return-same (mark name ++ encode_lower digest ++ spaces) (escaped name) (escaped-not_nil name some) (no_return-escaped name)
+
+-- the line of a marked name
+plain-marked : (digest name : List ℕ) → is_marked name ≡ true → plain_text digest name ≡ 92 ∷ (encode_lower digest ++ spaces ++ escaped name)
+unfolding plain_text
+plain-marked digest name marked = ap (λ m. m ++ encode_lower digest ++ spaces ++ escaped name) (cond-true (is_marked name) _ _ marked)
+
+-- the line of a name without mark
+plain-unmarked : (digest name : List ℕ) → is_marked name ≡ false → plain_text digest name ≡ encode_lower digest ++ spaces ++ name
+unfolding plain_text
+plain-unmarked digest name unmarked =
+    ap (λ m. m ++ encode_lower digest ++ spaces ++ escaped name) (cond-false (is_marked name) _ _ unmarked)
+    ∙ ap (λ t. encode_lower digest ++ spaces ++ t) (escaped-unmarked name unmarked)
+
+-- what is written for a digest of 32 bytes and a lawful name reads to that digest, that name and its shown form
+pub Reads-plain : (digest name : List ℕ) → length digest ≡ 32 → IsBytes digest → name ≢ [] → holds_bad_character name ≡ false
+    → IsUtf8 name → Reads (plain_text digest name) digest name (shown name)
+Reads-plain digest name count bytes some allowed utf8 =
+    let line = plain_text digest name in
+    let same = without_return-plain digest name some in
+    let digits = AreDigits-encode_lower digest count bytes in
+    record {
+      says = elim (cases_Bool (is_marked name)) [
+        | inl marked ↦ inr (record {
+          digits = encode_lower digest;
+          spelled = escaped name;
+          digits_are = digits;
+          text_is = same ∙ plain-marked digest name marked;
+          spells = Spells-escaped name;
+          shown_is = shown-marked name marked;
+        })
+        | inr unmarked ↦ inl (record {
+          digits = encode_lower digest;
+          digits_are = digits;
+          text_is = same ∙ plain-unmarked digest name unmarked;
+          shown_is = shown-unmarked name unmarked;
+        })
+      ];
+      is_text = subst IsUtf8 (sym same) (IsUtf8-plain digest name utf8);
+      is_named = some;
+      is_lawful = allowed;
+    }

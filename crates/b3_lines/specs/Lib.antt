@@ -1,0 +1,5 @@
+pub mod Names
+pub mod Parts
+pub mod Reading
+pub mod Reasons
+pub mod Writing

@@ -1,0 +1,83 @@
+-- Names in check lines, over lists of bytes: text is UTF-8 there, and the characters that are
+-- escaped are ASCII.
+use Rattle.std.specs.Prelude.{◌≢◌, ◌≡◌, ℕ, ◌==◌, ◌||◌, Bool, false, not, if◌then◌else◌, List, [], ◌∷◌, map}
+use Rattle.std.specs.List.{list_any, flat_map, starts_with}
+use Rattle.std.specs.Prelude.{nat_eq}
+
+-- whether a character is escaped: `\`, a line feed or a carriage return
+abbrev pub is_escaped : ℕ → Bool
+is_escaped b = b == 92 || b == 10 || b == 13
+
+-- a character as it is written: `\` as `\\`, a line feed as `\n`, a carriage return as `\r`
+abbrev pub escape : ℕ → List ℕ
+escape b =
+    if b == 92 then 92 ∷ 92 ∷ []
+    else if b == 10 then 92 ∷ 110 ∷ []
+    else if b == 13 then 92 ∷ 114 ∷ []
+    else b ∷ []
+
+-- the name with its three characters escaped
+unfoldable pub escaped : List ℕ → List ℕ
+escaped name = flat_map escape name
+
+-- a piece of an escaped name: one of the three escapes, or a byte but `\`
+pub data Piece : Type 0 where
+  backslash : Piece
+  line_feed : Piece
+  carriage_return : Piece
+  itself : (b : ℕ) → b ≢ 92 → Piece
+
+-- how a piece is written: `\\`, `\n`, `\r`, or the byte
+abbrev pub spelling : Piece → List ℕ
+spelling backslash = 92 ∷ 92 ∷ []
+spelling line_feed = 92 ∷ 110 ∷ []
+spelling carriage_return = 92 ∷ 114 ∷ []
+spelling (itself b _) = b ∷ []
+
+-- what a piece stands for
+abbrev pub meaning : Piece → ℕ
+meaning backslash = 92
+meaning line_feed = 10
+meaning carriage_return = 13
+meaning (itself b _) = b
+
+-- the text is made of pieces that spell the name
+abbrev pub Spells : List ℕ → List ℕ → Type 0
+Spells text name = (pieces : List Piece) × (text ≡ flat_map spelling pieces) × (name ≡ map meaning pieces)
+
+-- whether `\`, `n` or `r`, which may follow a `\`
+abbrev pub ends_escape : ℕ → Bool
+ends_escape c = c == 92 || c == 110 || c == 114
+
+-- whether, read from the left, a `\` is followed by none of `\`, `n` and `r`
+unfoldable pub has_bad_escape : List ℕ → Bool
+has_bad_escape [] = false
+has_bad_escape (b ∷ []) = b == 92
+has_bad_escape (b ∷ c ∷ text) =
+    if b == 92 then not (ends_escape c) || has_bad_escape text
+    else has_bad_escape (c ∷ text)
+
+-- what `\` and this character stand for
+abbrev pub escape_meaning : ℕ → ℕ
+escape_meaning c = if c == 110 then 10 else if c == 114 then 13 else 92
+
+-- the text with its escapes taken back
+unfoldable pub unescaped : List ℕ → List ℕ
+unescaped [] = []
+unescaped (b ∷ []) = b ∷ []
+unescaped (b ∷ c ∷ text) =
+    if b == 92 then escape_meaning c ∷ unescaped text
+    else b ∷ unescaped (c ∷ text)
+
+-- U+FFFD in UTF-8
+abbrev pub replacement : List ℕ
+replacement = 0xEF ∷ 0xBF ∷ 0xBD ∷ []
+
+-- whether U+FFFD stands in the text
+unfoldable pub holds_replacement : List ℕ → Bool
+holds_replacement [] = false
+holds_replacement (b ∷ text) = starts_with nat_eq (b ∷ text) replacement || holds_replacement text
+
+-- whether NUL or U+FFFD stands in the text
+unfoldable pub holds_bad_character : List ℕ → Bool
+holds_bad_character text = list_any (λ b. b == 0) text || holds_replacement text

@@ -1,0 +1,88 @@
+-- Check lines as they are read: what an accepted line says, and the first refusal of any other.
+use Rattle.std.specs.Prelude.{◌≡◌, ◌≢◌, ◌⊎◌, ℕ, ◌-◌, ◌==◌, ◌&&◌, Bool, false, not, nat_lt, if◌then◌else◌, List, [], ◌∷◌, ◌++◌, length, take, drop, slice_index, Option, Some, None, MatchOption, Ok, IsUtf8, bytes_eq}
+use Rattle.std.specs.List.{list_all}
+use Rattle.std.specs.Str.{is_utf8}
+use Rattle.hex.specs.Hex.{decode_of, is_hex_digit}
+use Rattle.b3_lines.specs.declared.fault.LineFault.{LineFault}
+use Rattle.b3_lines.specs.declared.fault.LineFault.TheVariants.{Empty, NotText, Short, NotDigits, NoSpaces, NoName, BadEscape, BadCharacter}
+use Rattle.b3_lines.specs.Names.{Spells, has_bad_escape, holds_bad_character, unescaped}
+use Rattle.b3_lines.specs.Writing.{spaces}
+
+-- the line, with one carriage return at its very end taken away
+unfoldable pub without_return : List ℕ → List ℕ
+without_return line =
+    let last = length line - 1 in
+    if slice_index line last == 13 then take last line else line
+
+-- the digits of a digest of 32 bytes, in either case
+pub record AreDigits (digits digest : List ℕ) : Type 0 where
+  pub count : length digits ≡ 64
+  pub value : decode_of digits ≡ Ok digest
+
+-- digits, two spaces and the name as it stands
+pub record SaysUnmarked (text digest name shown : List ℕ) : Type 0 where
+  pub digits : List ℕ
+  pub digits_are : AreDigits digits digest
+  pub text_is : text ≡ digits ++ spaces ++ name
+  pub shown_is : shown ≡ name
+
+-- `\`, digits, two spaces and pieces that spell the name
+pub record SaysMarked (text digest name shown : List ℕ) : Type 0 where
+  pub digits : List ℕ
+  pub spelled : List ℕ
+  pub digits_are : AreDigits digits digest
+  pub text_is : text ≡ 92 ∷ (digits ++ spaces ++ spelled)
+  pub spells : Spells spelled name
+  pub shown_is : shown ≡ 92 ∷ spelled
+
+-- an accepted line, and the digest, the name and the shown name that it says
+pub record Reads (line digest name shown : List ℕ) : Type 0 where
+  pub says : SaysUnmarked (without_return line) digest name shown ⊎ SaysMarked (without_return line) digest name shown
+  pub is_text : IsUtf8 (without_return line)
+  pub is_named : name ≢ []
+  pub is_lawful : holds_bad_character name ≡ false
+
+-- whether a line is marked: its first byte is `\`
+abbrev pub has_mark : List ℕ → Bool
+has_mark text = slice_index text 0 == 92
+
+-- what follows the mark, where there is one
+abbrev pub after_mark : List ℕ → List ℕ
+after_mark text = if has_mark text then drop 1 text else text
+
+-- the name that stands in a line as `spelled`
+abbrev pub name_of : Bool → List ℕ → List ℕ
+name_of marked spelled = if marked then unescaped spelled else spelled
+
+-- the first refusal that holds of what follows the mark
+unfoldable pub refusal_after_mark : Bool → List ℕ → Option LineFault
+refusal_after_mark marked rest =
+    let spelled = drop 66 rest in
+    if nat_lt (length rest) 66 then Some Short
+    else if not (list_all is_hex_digit (take 64 rest)) then Some NotDigits
+    else if not (bytes_eq (take 2 (drop 64 rest)) spaces) then Some NoSpaces
+    else if length spelled == 0 then Some NoName
+    else if marked && has_bad_escape spelled then Some BadEscape
+    else if holds_bad_character (name_of marked spelled) then Some BadCharacter
+    else None
+
+-- the first refusal that holds of a line
+unfoldable pub first_refusal : List ℕ → Option LineFault
+first_refusal line =
+    let text = without_return line in
+    if length text == 0 then Some Empty
+    else if not (is_utf8 text) then Some NotText
+    else refusal_after_mark (has_mark text) (after_mark text)
+
+-- the one digest, name and shown name that the line says
+pub record SaysOne (line : List ℕ) : Type 0 where
+  pub digest : List ℕ
+  pub name : List ℕ
+  pub shown : List ℕ
+  pub reads : Reads line digest name shown
+  pub only : (d n s : List ℕ) → Reads line d n s → (d ≡ digest) × (n ≡ name) × (s ≡ shown)
+
+-- a line that is not refused says one thing, and one that is refused says nothing
+abbrev pub HasOneOutcome : List ℕ → Type 0
+HasOneOutcome line =
+    MatchOption (first_refusal line) (SaysOne line) (λ _. (digest name shown : List ℕ) → ¬ Reads line digest name shown)

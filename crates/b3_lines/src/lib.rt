@@ -1,0 +1,20 @@
+//! Check lines: a digest in hex digits and the name that it belongs to, written, read, and read
+//! back.
+//!
+//! A line is the 64 lower-case digits of a digest, two spaces and the name. A name that holds a
+//! backslash, a line feed or a carriage return has them escaped, and its line is marked by a
+//! backslash in front. A line that is read may have digits of either case and a carriage return
+//! at its very end, and is refused by name where it is anything else.
+#![tactic(auto)]
+
+mod fault;
+mod names;
+mod reading;
+mod writing;
+
+pub use fault::LineFault;
+pub use reading::{Line, read_line};
+pub use writing::{shown_name, write_line};
+
+#[cfg(test)]
+mod tests;

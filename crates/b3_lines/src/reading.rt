@@ -1,0 +1,194 @@
+//! Check lines read.
+
+ghost use Rattle.std.specs.Prelude.{◌≡◌, ◌+◌, ◌<◌, ◌↔◌, ◌&&◌, List, ℕ, Some, None, IsNone, IfSome, IsTrue, false, length, IfOk, IfErr, IsErrOf, MatchResult};
+ghost use Rattle.std.specs.String.{string_bytes};
+ghost use Rattle.b3_lines.specs.Names.{has_bad_escape, unescaped};
+ghost use Rattle.b3_lines.specs.Parts.{AreParts, HasParts, shown_of};
+ghost use Rattle.b3_lines.specs.Reading.{HasOneOutcome, Reads, after_mark, first_refusal, has_mark, name_of, refusal_after_mark, without_return};
+
+use crate::fault::LineFault;
+use crate::names::{count_escapes, holds_bad_character, unescaped};
+use hex::FromHex;
+use std::alloc::{AllocError, Global};
+use std::str;
+
+/// What a check line says.
+#[derive(Debug, Drop)]
+pub struct Line {
+    /// The digest.
+    pub digest: [u8; 32],
+    /// The name, its escapes taken back.
+    pub name: String,
+    /// The name as it stands in the line, with a backslash in front where the line is marked.
+    pub shown: String,
+}
+
+/// The parts of a line that is accepted.
+#[derive(Drop)]
+struct Parts<'a> {
+    digest: [u8; 32],
+    /// The name as it stands in the line.
+    spelled: &'a str,
+    marked: bool,
+    /// How many escapes the name has.
+    escapes: usize,
+}
+
+impl Parts<'_> {
+    /// The name, its escapes taken back in a marked line.
+    fn name(&self, alloc: Global) -> Result<String, AllocError>
+        requires lawful { IsTrue self.now.marked → has_bad_escape self.now.spelled.now ≡ false }
+        requires counted { IsTrue self.now.marked →
+            length (unescaped self.now.spelled.now) + self.now.escapes ≡ length self.now.spelled.now }
+        ensures { IfOk result (λ name.
+            string_bytes name ≡ name_of self.now.marked self.now.spelled.now) }
+    {
+        if self.marked {
+            unescaped(alloc, self.spelled, self.escapes)
+        } else {
+            String::from_str(alloc, self.spelled)
+        }
+    }
+
+    /// The name as it stands in the line, behind the mark of a marked one.
+    fn shown(&self, alloc: Global) -> Result<String, AllocError>
+        ensures { IfOk result (λ shown.
+            string_bytes shown ≡ shown_of self.now.marked self.now.spelled.now) }
+    {
+        if !self.marked {
+            return String::from_str(alloc, self.spelled);
+        }
+        let mut shown = String::with_capacity(alloc, self.spelled.len().saturating_add(1))?;
+        shown.push('\\')?;
+        shown.push_str(self.spelled)?;
+        Ok(shown)
+    }
+}
+
+/// Reads the bytes of one line, without its line feed.
+///
+/// One carriage return at the very end is not part of the line. A line whose first byte is a
+/// backslash is marked, and the escapes of its name are taken back. The first refusal that holds
+/// is answered; all but `Memory` are found before memory is taken.
+pub fn read_line(alloc: Global, line: &[u8]) -> Result<Line, LineFault>
+    // What is answered is what the line says.
+    ensures read { IfOk result (λ read.
+        Reads line.now read.digest (string_bytes read.name) (string_bytes read.shown)) }
+    // What the line says is answered, or there is no memory for it.
+    ensures only { (digest name shown : List ℕ) → Reads line.now digest name shown → MatchResult result
+        (λ read. (read.digest ≡ digest)
+        × (string_bytes read.name ≡ name) × (string_bytes read.shown ≡ shown))
+        (λ fault. fault ≡ LineFault.Memory) }
+
+    // Each refusal comes exactly where it is the first that holds.
+    ensures empty { IsErrOf result LineFault.Empty ↔ (first_refusal line.now ≡ Some LineFault.Empty) }
+    ensures not_text { IsErrOf result LineFault.NotText ↔
+        (first_refusal line.now ≡ Some LineFault.NotText) }
+    ensures short { IsErrOf result LineFault.Short ↔ (first_refusal line.now ≡ Some LineFault.Short) }
+    ensures not_digits { IsErrOf result LineFault.NotDigits ↔
+        (first_refusal line.now ≡ Some LineFault.NotDigits) }
+    ensures no_spaces { IsErrOf result LineFault.NoSpaces ↔
+        (first_refusal line.now ≡ Some LineFault.NoSpaces) }
+    ensures no_name { IsErrOf result LineFault.NoName ↔ (first_refusal line.now ≡ Some LineFault.NoName) }
+    ensures bad_escape { IsErrOf result LineFault.BadEscape ↔
+        (first_refusal line.now ≡ Some LineFault.BadEscape) }
+    ensures bad_character { IsErrOf result LineFault.BadCharacter ↔
+        (first_refusal line.now ≡ Some LineFault.BadCharacter) }
+
+    // Want of memory comes only in the place of an answer.
+    ensures memory { IsErrOf result LineFault.Memory → first_refusal line.now ≡ None }
+
+    // A line is refused by one fault, or says one thing, and never both.
+    ensures one_outcome { HasOneOutcome line.now }
+{
+    let parts = accepted(line)?;
+    let name = parts.name(alloc)?;
+    let shown = parts.shown(alloc)?;
+    Ok(Line {
+        digest: parts.digest,
+        name,
+        shown,
+    })
+}
+
+/// The parts of the line, or the first refusal that holds. It takes no memory.
+fn accepted(line: &[u8]) -> Result<Parts<'_>, LineFault>
+    ensures refused { IfErr result (λ fault. first_refusal line.now ≡ Some fault) }
+    ensures taken { IfOk result (λ parts.
+        HasParts line.now parts.digest parts.spelled.now parts.marked parts.escapes) }
+{
+    let text = without_return(line);
+    if text.is_empty() {
+        return Err(LineFault::Empty);
+    }
+    let Ok(text) = str::from_utf8(text) else {
+        return Err(LineFault::NotText);
+    };
+    let (marked, rest) = after_mark(text);
+    parts_after_mark(marked, rest)
+}
+
+/// The line without the carriage return at its very end, where it has one.
+fn without_return(line: &[u8]) -> &[u8]
+    ensures { result.now ≡ without_return line.now }
+{
+    line.strip_suffix(b"\r").unwrap_or(line)
+}
+
+/// Whether a line is marked, and what follows its mark.
+fn after_mark(text: &str) -> (bool, &str)
+    requires { 0 < length text.now }
+    ensures mark { result.0 ≡ has_mark text.now }
+    ensures rest { result.1.now ≡ after_mark text.now }
+{
+    if text.as_bytes()[0] == b'\\' {
+        (true, &text[1..])
+    } else {
+        (false, text)
+    }
+}
+
+/// The parts of what follows the mark, or the first refusal that holds of it.
+fn parts_after_mark(marked: bool, rest: &str) -> Result<Parts<'_>, LineFault>
+    ensures refused { IfErr result (λ fault. refusal_after_mark marked rest.now ≡ Some fault) }
+    ensures mark { IfOk result (λ parts. parts.marked ≡ marked) }
+    ensures taken { IfOk result (λ parts.
+        AreParts marked rest.now parts.digest parts.spelled.now parts.escapes) }
+{
+    let bytes = rest.as_bytes();
+    if bytes.len() < 66 {
+        return Err(LineFault::Short);
+    }
+    let Ok(digest) = <[u8; 32]>::from_hex(&bytes[..64]) else {
+        return Err(LineFault::NotDigits);
+    };
+    if &bytes[64..66] != b"  ".as_slice() {
+        return Err(LineFault::NoSpaces);
+    }
+    let spelled = &rest[66..];
+    if spelled.is_empty() {
+        return Err(LineFault::NoName);
+    }
+    let Some(escapes) = escapes_of(marked, spelled.as_bytes()) else {
+        return Err(LineFault::BadEscape);
+    };
+    if holds_bad_character(spelled.as_bytes()) {
+        return Err(LineFault::BadCharacter);
+    }
+    Ok(Parts {
+        digest,
+        spelled,
+        marked,
+        escapes,
+    })
+}
+
+/// How many escapes the name of a line has: none where the line is not marked. `None` where a
+/// marked line has a bad one.
+fn escapes_of(marked: bool, name: &[u8]) -> Option<usize>
+    ensures lawful { IsNone result ↔ IsTrue (marked && has_bad_escape name.now) }
+    ensures counted { IsTrue marked →
+        IfSome result (λ n. length (unescaped name.now) + n ≡ length name.now) }
+{
+    if marked { count_escapes(name) } else { Some(0) }
+}

@@ -1,0 +1,214 @@
+use super::*;
+use hex::FromHex;
+use std::alloc::{AllocError, Global};
+use std::process::Abort;
+use std::test::Fail;
+
+/// The digits of the BLAKE3 digest of no bytes.
+const DIGITS: &str = "af1349b9f5f9a1a6a0404dea36dcc9499bcb25c9adc112b7cc9a93cae41f3262";
+
+fn digest(rt: &impl Abort) -> [u8; 32] {
+    <[u8; 32]>::from_hex(DIGITS).expect(rt, "64 digits")
+}
+
+/// The bytes of `before`, the digits and `after`, as a line.
+fn line_of(alloc: Global, before: &[u8], after: &[u8]) -> Result<Vec<u8>, AllocError> {
+    let mut line = Vec::from_slice(alloc, before)?;
+    line.extend_from_slice(DIGITS.as_bytes())?;
+    line.extend_from_slice(after)?;
+    Ok(line)
+}
+
+#[test]
+fn a_name_with_a_backslash_and_a_line_feed(rt: HostRuntime) -> Result<(), Fail> {
+    let alloc = rt.alloc();
+    let digest = digest(&rt);
+    let written = write_line(alloc, &digest, "a\\b\nc")?;
+    let want = line_of(alloc, b"\\", b"  a\\\\b\\nc\n")?;
+    assert_eq!(rt; written.as_slice(), want.as_slice());
+    assert_eq!(rt; written.len(), 75);
+    assert_eq!(rt; written.capacity(), 75, "one growth, of the exact length");
+    let line = read_line(alloc, &line_of(alloc, b"\\", b"  a\\\\b\\nc")?)?;
+    assert!(rt; line.digest == digest);
+    assert_eq!(rt; line.name.as_str(), "a\\b\nc");
+    assert_eq!(rt; line.name.capacity(), 5, "one growth, of the exact length");
+    assert_eq!(rt; line.shown.as_str(), "\\a\\\\b\\nc");
+    assert_eq!(rt; line.shown.capacity(), 8, "one growth, of the exact length");
+    let shown = shown_name(alloc, "a\\b\nc")?;
+    assert_eq!(rt; shown.as_str(), "\\a\\\\b\\nc");
+    assert_eq!(rt; shown.capacity(), 8, "one growth, of the exact length");
+    Ok(())
+}
+
+/// The answer of a call, which is asked again where a growth was refused.
+macro_rules! answered {
+    ($call:expr) => {
+        match $call {
+            Err(LineFault::Memory) => $call,
+            answer => answer,
+        }
+    };
+}
+
+/// Each growth is refused in turn by `rt try --test --fail-alloc N`, for N from 1 to 4.
+#[test]
+fn refused_memory_is_answered(rt: HostRuntime) -> Result<(), Fail> {
+    let alloc = rt.alloc();
+    let digest = digest(&rt);
+    let want = b"\\af1349b9f5f9a1a6a0404dea36dcc9499bcb25c9adc112b7cc9a93cae41f3262  a\\\\b\\nc\n";
+    let written = answered!(write_line(alloc, &digest, "a\\b\nc"))?;
+    assert_eq!(rt; written.as_slice(), want.as_slice());
+    let shown = answered!(shown_name(alloc, "a\\b\nc"))?;
+    assert_eq!(rt; shown.as_str(), "\\a\\\\b\\nc");
+    let line = answered!(read_line(alloc, &want[..74]))?;
+    assert_eq!(rt; line.name.as_str(), "a\\b\nc");
+    assert_eq!(rt; line.shown.as_str(), "\\a\\\\b\\nc");
+    assert_eq!(rt;
+        answered!(read_line(alloc, &want[..66])).err(),
+        Some(LineFault::Short)
+    );
+    Ok(())
+}
+
+#[test]
+fn lines_as_they_are_written(rt: HostRuntime) -> Result<(), Fail> {
+    let alloc = rt.alloc();
+    let digest = digest(&rt);
+    let carriage_return = write_line(alloc, &digest, "x\r")?;
+    let want = line_of(alloc, b"\\", b"  x\\r\n")?;
+    assert_eq!(rt; carriage_return.as_slice(), want.as_slice());
+    let plain = write_line(alloc, &digest, "-")?;
+    let want = line_of(alloc, b"", b"  -\n")?;
+    assert_eq!(rt; plain.as_slice(), want.as_slice());
+    assert_eq!(rt; plain.capacity(), 68, "one growth, of the exact length");
+    let no_digits = write_line(alloc, &[], "x")?;
+    assert_eq!(rt; no_digits.as_slice(), b"  x\n".as_slice());
+    assert_eq!(rt;
+        write_line(alloc, &digest, "").err(),
+        Some(LineFault::NoName)
+    );
+    for name in ["a\u{FFFD}", "\0", "\\\n\0"] {
+        let fault = write_line(alloc, &digest, name).err();
+        assert_eq!(rt; fault, Some(LineFault::BadCharacter), "at {name:?}");
+    }
+    Ok(())
+}
+
+#[test]
+fn shown_names(rt: HostRuntime) -> Result<(), Fail> {
+    let alloc = rt.alloc();
+    for (name, want) in [
+        ("a\\b", "\\a\\\\b"),
+        ("", ""),
+        ("\u{FFFD}\0", "\u{FFFD}\0"),
+        ("\r", "\\\\r"),
+    ] {
+        assert_eq!(rt; shown_name(alloc, name)?.as_str(), want);
+    }
+    Ok(())
+}
+
+#[test]
+fn lines_that_are_refused(rt: HostRuntime) -> Result<(), Fail> {
+    let alloc = rt.alloc();
+    let whole: [(&[u8], LineFault); 5] = [
+        (b"", LineFault::Empty),
+        (b"\r", LineFault::Empty),
+        (b"\xFF", LineFault::NotText),
+        (b"\\", LineFault::Short),
+        (b"BLAKE3 (", LineFault::Short),
+    ];
+    for (line, want) in whole {
+        assert_eq!(rt; read_line(alloc, line).err(), Some(want), "at {line:?}");
+    }
+    let around: [(&[u8], &[u8], LineFault); 10] = [
+        (b"", b" ", LineFault::Short),
+        (b"\\", b" ", LineFault::Short),
+        (b"", b"  ", LineFault::NoName),
+        (b"\\", b"  ", LineFault::NoName),
+        (b"", b"  \r", LineFault::NoName),
+        (b"", b" xy", LineFault::NoSpaces),
+        (b"g", b"  x", LineFault::NotDigits),
+        (b"\\", b"  \\q\0", LineFault::BadEscape),
+        (b"", b"  x\0", LineFault::BadCharacter),
+        (b"", b"  x\xEF\xBF\xBDy", LineFault::BadCharacter),
+    ];
+    for (before, after, want) in around {
+        let line = line_of(alloc, before, after)?;
+        assert_eq!(rt; read_line(alloc, &line).err(), Some(want), "at {line:?}");
+    }
+    let line = b"gf1349b9f5f9a1a6a0404dea36dcc9499bcb25c9adc112b7cc9a93cae41f3262  x".as_slice();
+    assert_eq!(rt; read_line(alloc, line).err(), Some(LineFault::NotDigits));
+    Ok(())
+}
+
+#[test]
+fn lines_that_are_taken(rt: HostRuntime) -> Result<(), Fail> {
+    let alloc = rt.alloc();
+    let digest = digest(&rt);
+    let rows: [(&[u8], &[u8], &str, &str); 7] = [
+        (b"", b"   ", " ", " "),
+        (b"", b"  x\r", "x", "x"),
+        (b"", b"  x\r\r", "x\r", "x\r"),
+        (b"\\", b"  ab", "ab", "\\ab"),
+        (b"", b"  a\\nb", "a\\nb", "a\\nb"),
+        (b"\\", b"  a\nb", "a\nb", "\\a\nb"),
+        (
+            b"\\",
+            b"  \xC3\xA9\\\\\\r\xE2\x82\xAC",
+            "\u{E9}\\\r\u{20AC}",
+            "\\\u{E9}\\\\\\r\u{20AC}",
+        ),
+    ];
+    for (before, after, name, shown) in rows {
+        let read = read_line(alloc, &line_of(alloc, before, after)?)?;
+        assert!(rt; read.digest == digest);
+        assert_eq!(rt; read.name.as_str(), name);
+        assert_eq!(rt; read.shown.as_str(), shown);
+    }
+    let upper = b"AF1349B9F5F9A1A6A0404DEA36DCC9499BCB25C9ADC112B7CC9A93CAE41F3262  x".as_slice();
+    let read = read_line(alloc, upper)?;
+    assert!(rt; read.digest == digest);
+    assert_eq!(rt; read.name.as_str(), "x");
+    assert_eq!(rt; read.shown.as_str(), "x");
+    Ok(())
+}
+
+#[test]
+fn each_byte_behind_a_backslash(rt: HostRuntime) -> Result<(), Fail> {
+    let alloc = rt.alloc();
+    for byte in 0..=255u8 {
+        let line = line_of(alloc, b"\\", &[b' ', b' ', b'a', b'\\', byte, b'b'])?;
+        let read = read_line(alloc, &line);
+        let want = match byte {
+            b'\\' => Ok("a\\b"),
+            b'n' => Ok("a\nb"),
+            b'r' => Ok("a\rb"),
+            128.. => Err(LineFault::NotText),
+            _ => Err(LineFault::BadEscape),
+        };
+        match read {
+            Ok(line) => assert_eq!(rt; Ok(line.name.as_str()), want, "at {byte}"),
+            Err(fault) => assert_eq!(rt; Err(fault), want, "at {byte}"),
+        }
+    }
+    Ok(())
+}
+
+#[test]
+fn reasons(rt: HostRuntime) {
+    let rows = [
+        (LineFault::Empty, "empty line"),
+        (LineFault::NotText, "not text"),
+        (LineFault::Short, "short line"),
+        (LineFault::NotDigits, "bad digits"),
+        (LineFault::NoSpaces, "missing spaces"),
+        (LineFault::NoName, "no name"),
+        (LineFault::BadEscape, "bad escape"),
+        (LineFault::BadCharacter, "bad character"),
+        (LineFault::Memory, "out of memory"),
+    ];
+    for (fault, want) in rows {
+        assert_eq!(rt; fault.reason(), want);
+    }
+}

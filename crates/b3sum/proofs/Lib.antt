@@ -1,0 +1,5 @@
+pub mod Gains
+pub mod ScriptLemmas
+pub mod RunLemmas
+pub mod SumLemmas
+pub mod Stored

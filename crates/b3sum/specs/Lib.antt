@@ -1,0 +1,12 @@
+pub mod Contents
+pub mod Sinks
+pub mod Tallies
+pub mod Faults
+pub mod Scripts
+pub mod Reading
+pub mod Runs
+pub mod Sums
+pub mod MemoryShelves
+pub mod MemorySinks
+pub mod Programs
+pub mod Words
