@@ -1,14 +1,19 @@
-//! BLAKE3 as a library: the extendable output, and hashes of whole inputs in each mode.
+//! BLAKE3 as a library: hashes of whole inputs and of inputs that come piece by piece, in each mode, and
+//! the extendable output.
 //!
 //! No call takes memory.
 #![tactic(auto)]
 
 mod derivation;
+mod hasher;
 mod hashes;
+mod open_chunk;
 mod output;
+mod subtrees;
 #[cfg(test)]
 mod tests;
 
 pub use derivation::derive_mode;
+pub use hasher::{Hasher, TooLong};
 pub use hashes::{hash, keyed_hash};
 pub use output::{PastEnd, Xof};

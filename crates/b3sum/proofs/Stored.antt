@@ -25,6 +25,7 @@ content_among-append (x ∷ xs) ys name =
     ≡ first_of_two (cond b (Some x.content.items) (content_among xs name)) (content_among ys name))
     [ true ↦ refl | false ↦ content_among-append xs ys name ]
 
+-- nothing behind what was found
 first_of_two-none : (found : Option (List ℕ)) → first_of_two found None ≡ found
 first_of_two-none None = refl
 first_of_two-none (Some x) = refl
@@ -87,6 +88,7 @@ content_at (file ∷ files) name (suc k) within before named =
     ap (λ b. cond b (Some file.content.items) (content_among files name)) rest.0
     ∙ content_at files name k (omega arith) rest.1 named
 
+-- the first file of a name has its content
 pub content_among-first : {files : List StoredFile} {name : List ℕ} {k : ℕ} → IsFirstAt files name k
     → content_among files name ≡ Some (option_map_or (λ file. file.content.items) (slice_get files k) [])
 content_among-first {files} {name} {k} first = content_at files name k first.within first.before first.named
@@ -129,6 +131,7 @@ content_among-set (file ∷ files) name content (suc k) new asked within before 
     (content_among-set files name content k new asked (omega arith) rest.1 named new_name new_content)
     ∙ cond-other (string_bytes file.name) name file.content.items content (content_among files asked) asked rest.0
 
+-- the first file of a name gets new content
 pub puts_set : {files : List StoredFile} {name : List ℕ} {k : ℕ} (content : List ℕ) (new file : StoredFile) → IsFirstAt files name k
     → file ≡ get_or files k file → string_bytes new.name ≡ string_bytes file.name → new.content.items ≡ content
     → Puts (content_among files) (content_among (set files k new)) name content
@@ -164,6 +167,7 @@ gives_within content place count room within is_least some = record {
       );
 }
 
+-- a read gives the bytes behind the place
 pub gives_next : (content : List ℕ) (place count room : ℕ)
     → count ≡ min (length (drop (min place (length content)) content)) room → 0 < room
     → Gives (drop place content) (take count (drop (min place (length content)) content)) (drop (place + count) content)

@@ -1,5 +1,5 @@
 -- The script of a list of names, name by name, and the run of one name.
-use Rattle.std.proofs.Common.{◌≡◌, ◌⊎◌, ℕ, zero, suc, ◌+◌, ◌<◌, Bool, false, List, [], ◌∷◌, ◌++◌, length, take, drop, get_or, map, Option, Some, codes, refl, sym, ◌∙◌, ap, subst, inl, inr, add-one, add-zero, arith}
+use Rattle.std.proofs.Common.{◌≡◌, ◌⊎◌, ℕ, zero, suc, ◌+◌, ◌<◌, ◌&&◌, Bool, false, List, [], ◌∷◌, ◌++◌, length, take, drop, get_or, map, Option, Some, codes, refl, sym, ◌∙◌, ap, subst, inl, inr, add-one, add-zero, arith}
 use Rattle.std.proofs.Math.Seq.{take-suc, drop-cons}
 use Rattle.std.proofs.lemmas.List.{map-append, take-append-drop}
 use Rattle.std.proofs.lemmas.Bool.{cond-false}
@@ -20,7 +20,7 @@ use Rattle.b3sum.specs.Scripts.Kind.{Whole}
 use Rattle.b3sum.specs.Scripts.Script.{Done, Say, Ask}
 use Rattle.b3sum.specs.Runs.{IsFaultOf, Ran, Scene, Stopped, is_of_content, scene}
 use Rattle.b3sum.specs.Sinks.{GainsBeginning}
-use Rattle.b3sum.specs.Sums.{digest_text, is_bad_name, mode_of, name_report, name_script, sum_script}
+use Rattle.b3sum.specs.Sums.{digest_text, is_bad_name, mode_of, name_report, name_script, shows_name, sum_script}
 use Rattle.b3sum.specs.Tallies.{tally_sum}
 use Rattle.b3sum.proofs.Gains.{GainsBeginning-none}
 use Rattle.b3sum.proofs.RunLemmas.{ran_then, ran_then_stopped, stopped_early}
@@ -43,7 +43,8 @@ sum_script-more options xs name =
 -- a name that a line can show is asked for, and then said
 name_script-asks : (options : SumOptions) (name : List ℕ) → is_bad_name name ≡ false
     → name_script options name ≡ Ask Whole name (λ answer. Say (name_report options name answer) Done)
-name_script-asks options name good = cond-false (is_bad_name name) _ _ good
+name_script-asks options name good =
+    cond-false (is_bad_name name && shows_name options.form) _ _ (ap (λ bad. bad && shows_name options.form) good)
 
 -- the report of a name and its answer
 report-asked : (options : SumOptions) (name : List ℕ) (answer : Answer)

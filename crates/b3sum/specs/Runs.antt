@@ -14,6 +14,7 @@ pub record Scene : Type 0 where
   pub out : Option (List ℕ)
   pub err : Option (List ℕ)
 
+-- the scene of these three
 abbrev pub scene : ℕ → Option (List ℕ) → Option (List ℕ) → Scene
 scene failures out err = record { failures = failures; out = out; err = err }
 
@@ -65,6 +66,7 @@ pub record RanFrom (contents : Contents) (script : Script) (before after : Scene
   pub err : Appends before.err after.err (report_from contents script).err
   pub counted : tally ≡ (report_from contents script).tally
 
+-- the same, where a shelf tells its contents and fails nowhere else; nothing of any other
 abbrev pub RanSurely : Option Contents → Bool → Script → Scene → Scene → Tally → Type 0
 RanSurely None sure script before after tally = ⊤
 RanSurely (Some contents) false script before after tally = ⊤

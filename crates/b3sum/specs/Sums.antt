@@ -1,5 +1,5 @@
 -- The script of a run that writes the check lines of a list of names.
-use Rattle.std.specs.Prelude.{ℕ, ◌==◌, ◌||◌, Bool, if◌then◌else◌, List, [], ◌∷◌, ◌++◌, None, Some, codes, length}
+use Rattle.std.specs.Prelude.{ℕ, ◌==◌, ◌||◌, ◌&&◌, Bool, true, if◌then◌else◌, List, [], ◌∷◌, ◌++◌, None, Some, codes, length}
 use Rattle.std.specs.String.{string_bytes}
 use Rattle.b3_core.specs.Modes.{hash_mode}
 use Rattle.b3_core.specs.Output.{blake3}
@@ -38,6 +38,10 @@ abbrev pub mode_of : KeyChoice → Mode
 mode_of Plain = hash_mode
 mode_of (Derive context) = derived_mode (string_bytes context)
 
+-- whether a form shows the name
+abbrev pub shows_name : Form → Bool
+shows_name Named = true
+
 -- what is written for a digest
 abbrev pub digest_text : Form → List ℕ → List ℕ → List ℕ
 digest_text Named digest name = plain digest name
@@ -49,10 +53,10 @@ name_report options name (Some content) =
     let digest = blake3 (mode_of options.key) content options.seek options.length in
     record { out = digest_text options.form digest name; err = []; tally = one_ok }
 
--- the script of one name
+-- the script of one name, which is asked for unless the form shows a name that no line can show
 abbrev pub name_script : SumOptions → List ℕ → Script
 name_script options name =
-    if is_bad_name name then Say (failed_report name (codes "bad name")) Done
+    if is_bad_name name && shows_name options.form then Say (failed_report name (codes "bad name")) Done
     else Ask Whole name (λ answer. Say (name_report options name answer) Done)
 
 -- the script of a list of names
