@@ -50,7 +50,7 @@ macro_rules! answered {
     };
 }
 
-/// Each growth is refused in turn by `rt try --test --fail-alloc N`, for N from 1 to 4.
+/// Each growth is refused in turn by `make refused`.
 #[test]
 fn refused_memory_is_answered(rt: HostRuntime) -> Result<(), Fail> {
     let alloc = rt.alloc();
