@@ -10,3 +10,4 @@ pub mod MemoryShelves
 pub mod MemorySinks
 pub mod Programs
 pub mod Words
+pub mod Stops

@@ -10,24 +10,19 @@ ghost use Rattle.b3sum.specs.Words.{CanRun};
 
 mod engine;
 mod input;
+mod stop;
 #[cfg(test)]
 mod tests;
 mod words;
 
-use clap::error::ErrorKind;
 use engine::{RunFault, Shelf, Sink, SinkFailed, SumOptions, Tally, run_sum, write_all};
 use input::{InputShelf, OutputSink};
-use std::alloc::{AllocError, Global};
+use std::alloc::Global;
+use std::env;
 use std::process::ExitCode;
 use std::rt::Env;
-use std::{env, io};
+use stop::{FAILURE, Stop};
 use words::Words;
-
-/// The status of a run that failed.
-const FAILURE: u8 = 1;
-
-/// The status of a call that the program does not take.
-const USAGE: u8 = 2;
 
 fn main(rt: HostRuntime) -> ExitCode {
     let options = match read_words(&rt) {
@@ -38,68 +33,6 @@ fn main(rt: HostRuntime) -> ExitCode {
     let mut out = OutputSink::new(rt.stdout());
     let mut err = OutputSink::new(rt.stderr());
     ExitCode::from(run(&rt, rt.alloc(), &mut shelf, &options, &mut out, &mut err))
-}
-
-/// Why a call ends before it reads anything.
-#[derive(Debug, Drop)]
-enum Stop {
-    /// A word is not text.
-    NotText,
-    /// A growth was refused.
-    Memory,
-    /// A word is not taken, or asks for the help or the version.
-    Words(clap::Error),
-}
-
-impl Stop {
-    // Says why, and answers the status. The help and the version are no faults.
-    fn say<R: Print + Eprint>(&self, rt: &R) -> u8 {
-        match self {
-            Stop::NotText => {
-                let _ = rt.eprintln("b3sum: an argument is not text");
-                USAGE
-            }
-            Stop::Memory => {
-                let _ = rt.eprintln(RunFault::Memory.text());
-                FAILURE
-            }
-            Stop::Words(error) if error.use_stderr() => {
-                let _ = error.print(rt);
-                USAGE
-            }
-            Stop::Words(text) => match text.print(rt) {
-                Ok(()) => 0,
-                Err(_) => {
-                    let _ = rt.eprintln(RunFault::WriteFault.text());
-                    FAILURE
-                }
-            },
-        }
-    }
-}
-
-impl From<AllocError> for Stop {
-    fn from(_refused: AllocError) -> Stop {
-        Stop::Memory
-    }
-}
-
-impl From<clap::Error> for Stop {
-    fn from(error: clap::Error) -> Stop {
-        if error.kind() == ErrorKind::OutOfMemory {
-            return Stop::Memory;
-        }
-        Stop::Words(error)
-    }
-}
-
-impl From<io::Error> for Stop {
-    fn from(error: io::Error) -> Stop {
-        if error.kind() == io::ErrorKind::InvalidData {
-            return Stop::NotText;
-        }
-        Stop::Memory
-    }
 }
 
 // The words of this call.

@@ -7,8 +7,9 @@ use crate::engine::{
     CannotRead, KeyChoice, MemoryShelf, MemorySink, Shelf, Sink, SinkFailed, SumOptions,
 };
 use crate::input::{InputShelf, OutputSink};
+use crate::run;
+use crate::stop::Stop;
 use crate::words::Words;
-use crate::{Stop, run};
 use clap::error::ErrorKind;
 use std::alloc::{AllocError, Global};
 use std::process::Abort;
