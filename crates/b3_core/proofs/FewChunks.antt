@@ -1,0 +1,81 @@
+-- The chaining values of the chunks of an input, in a list, and the top of the tree over them.
+use Rattle.std.proofs.Common.{◌≡◌, ℕ, ◌+◌, ◌*◌, ◌<◌, ◌≤◌, ◌⊎◌, ◌≢◌, inl, inr, List, [], length, take, drop, get_or, set}
+use Rattle.std.proofs.Common.{sym, ap, ◌∙◌, arith, add-zero}
+use Rattle.std.proofs.lemmas.Bool.{cases_eq}
+use Rattle.std.proofs.lemmas.List.{take_all, get_or-take, get_or-drop, length-take, length-drop, get_or-set_same}
+use Rattle.std.proofs.lemmas.List.{get_or-set_other}
+use Rattle.b3_core.specs.Nodes.{chaining}
+use Rattle.b3_core.specs.Chunks.{chunk_node}
+use Rattle.b3_core.specs.Tree.{top}
+use Rattle.b3_core.specs.Lanes.{AreChunkChainings, chunk_chaining}
+use Rattle.b3_core.specs.declared.modes.Mode.{Mode}
+use Rattle.b3_core.proofs.Subtrees.{top-chunk}
+use Rattle.b3_core.proofs.Parts.{part-front, part-back}
+
+-- the first l of them, of the first l chunks
+pub each-front : (mode : Mode) (first l : ℕ) (bytes : List ℕ) (chainings : List (List ℕ))
+    → AreChunkChainings mode first bytes chainings
+    → AreChunkChainings mode first (take (1024 * l) bytes) (take l chainings)
+each-front mode first l bytes chainings each j lt =
+    let long = length-take l chainings in
+    let below : j < l = omega (arith, long) in
+    get_or-take l chainings j [] below
+    ∙ each j (omega (arith, long))
+    ∙ ap (λ xs. chaining (chunk_node mode (first + j) xs)) (sym (part-front 1 j (1024 * l) bytes (omega arith)))
+
+-- the others, of the other chunks
+pub each-back : (mode : Mode) (first l : ℕ) (bytes : List ℕ) (chainings : List (List ℕ))
+    → AreChunkChainings mode first bytes chainings
+    → AreChunkChainings mode (first + l) (drop (1024 * l) bytes) (drop l chainings)
+each-back mode first l bytes chainings each j lt =
+    let long = length-drop l chainings in
+    let number : first + (l + j) ≡ first + l + j = omega arith in
+    let chunk = part-back 1 j (l + j) (1024 * l) bytes (omega arith) in
+    get_or-drop l chainings j []
+    ∙ each (l + j) (omega (arith, long))
+    ∙ (λ i. chaining (chunk_node mode (number i) (sym chunk i)))
+
+-- one chunk
+pub each-one : (mode : Mode) (first : ℕ) (bytes : List ℕ) (chainings : List (List ℕ))
+    → AreChunkChainings mode first bytes chainings → 1 ≤ length chainings → length bytes ≤ 1024
+    → get_or chainings 0 [] ≡ chaining (top mode first bytes)
+each-one mode first bytes chainings each some short =
+    each 0 (omega arith)
+    ∙ (λ i. chaining (chunk_node mode (add-zero first i) (take_all 1024 bytes short i)))
+    ∙ ap chaining (sym (top-chunk mode first bytes short))
+
+-- full chunks alone
+pub each-full : (mode : Mode) (first full n : ℕ) (bytes : List ℕ) (chainings : List (List ℕ))
+    → ((j : ℕ) → j < full → get_or chainings j [] ≡ chunk_chaining mode first bytes j)
+    → n ≡ full
+    → AreChunkChainings mode first bytes (take n chainings)
+each-full mode first full n bytes chainings each n_is j lt =
+    let below : j < n = omega (arith, length-take n chainings) in
+    get_or-take n chainings j [] below ∙ each j (omega arith)
+
+each-last_at : (mode : Mode) (first full : ℕ) (bytes : List ℕ) (chainings : List (List ℕ)) (last : List ℕ)
+    → full < length chainings
+    → ((j : ℕ) → j < full → get_or chainings j [] ≡ chunk_chaining mode first bytes j)
+    → last ≡ chaining (chunk_node mode (first + full) (drop (1024 * full) bytes))
+    → length bytes ≤ 1024 * full + 1024
+    → (j : ℕ) → j < full + 1 → (j ≡ full) ⊎ (j ≢ full)
+    → get_or (set chainings full last) j [] ≡ chunk_chaining mode first bytes j
+each-last_at mode first full bytes chainings last room each last_is short j lt (inl same) =
+    let rest : length (drop (1024 * full) bytes) ≤ 1024 = omega (arith, length-drop (1024 * full) bytes) in
+    rw same (get_or-set_same chainings full last [] room ∙ last_is
+    ∙ ap (λ xs. chaining (chunk_node mode (first + full) xs)) (sym (take_all 1024 (drop (1024 * full) bytes) rest)))
+each-last_at mode first full bytes chainings last room each last_is short j lt (inr other) =
+    get_or-set_other chainings full j last [] other ∙ each j (omega (arith, other))
+
+-- full chunks, and a short one at the end
+pub each-last : (mode : Mode) (first full n : ℕ) (bytes : List ℕ) (chainings : List (List ℕ)) (last : List ℕ)
+    → full < length chainings
+    → ((j : ℕ) → j < full → get_or chainings j [] ≡ chunk_chaining mode first bytes j)
+    → last ≡ chaining (chunk_node mode (first + full) (drop (1024 * full) bytes))
+    → length bytes ≤ 1024 * full + 1024
+    → n ≡ full + 1
+    → AreChunkChainings mode first bytes (take n (set chainings full last))
+each-last mode first full n bytes chainings last room each last_is short n_is j lt =
+    let below : j < n = omega (arith, length-take n (set chainings full last)) in
+    get_or-take n (set chainings full last) j [] below
+    ∙ each-last_at mode first full bytes chainings last room each last_is short j (omega arith) (cases_eq j full)

@@ -1,0 +1,118 @@
+-- Chunks on lanes: blocks that are loaded by rows of four words, and the compressions of a full chunk.
+use Rattle.std.proofs.Common.{◌≡◌, ℕ, ◌+◌, ◌*◌, ◌/◌, ◌<◌, ◌≤◌, List, [], ◌∷◌, ◌++◌, length, map, get_or, take, drop}
+use Rattle.std.proofs.Common.{refl, sym, ap, ◌∙◌, arith, w32, add-zero, bit_or, ◌-◌}
+use Rattle.std.specs.Int.{from_le_bytes}
+use Rattle.std.specs.List.{range_with_len}
+use Rattle.std.specs.Simd.Lanes.{pick_l}
+use Rattle.std.proofs.lemmas.List.{get_or-take, get_or-drop, length-take-le, length-drop, drop-drop, drop-take}
+use Rattle.std.proofs.lemmas.List.{take-take}
+use Rattle.b3_core.specs.Words.{word_at, words_of}
+use Rattle.b3_core.specs.Compression.{compress}
+use Rattle.b3_core.specs.Nodes.{chaining}
+use Rattle.b3_core.specs.Chunks.{block_flags, carried, chunk_at, chunk_node, last_block, last_block_node}
+use Rattle.b3_core.specs.declared.modes.Mode.{Mode}
+use Rattle.b3_core.specs.declared.nodes.Node.{Node}
+use Rattle.b3_core.proofs.ChunkNodes.{block_node-whole, carried-suc, chunk_node-last}
+use Rattle.b3_core.specs.Lanes.{lane, word_from}
+use Rattle.b3_core.proofs.Lists.{below_eight}
+
+-- row j and row j + 4, four words each
+abbrev pub both : (ℕ → ℕ → ℕ) → ℕ → List ℕ
+both f j = map (f j) (range_with_len 0 4) ++ map (f (j + 4)) (range_with_len 0 4)
+
+-- four rows of two lanes each, exchanged
+abbrev pub exchanged : List ℕ → List ℕ → List ℕ → List ℕ → List (List ℕ)
+exchanged r0 r1 r2 r3 =
+    let a0 = pick_l 0 (r0 ++ r1) (0 ∷ 8 ∷ 1 ∷ 9 ∷ 4 ∷ 12 ∷ 5 ∷ 13 ∷ []) in
+    let a1 = pick_l 0 (r0 ++ r1) (2 ∷ 10 ∷ 3 ∷ 11 ∷ 6 ∷ 14 ∷ 7 ∷ 15 ∷ []) in
+    let a2 = pick_l 0 (r2 ++ r3) (0 ∷ 8 ∷ 1 ∷ 9 ∷ 4 ∷ 12 ∷ 5 ∷ 13 ∷ []) in
+    let a3 = pick_l 0 (r2 ++ r3) (2 ∷ 10 ∷ 3 ∷ 11 ∷ 6 ∷ 14 ∷ 7 ∷ 15 ∷ []) in
+    pick_l 0 (a0 ++ a2) (0 ∷ 1 ∷ 8 ∷ 9 ∷ 4 ∷ 5 ∷ 12 ∷ 13 ∷ [])
+    ∷ pick_l 0 (a0 ++ a2) (2 ∷ 3 ∷ 10 ∷ 11 ∷ 6 ∷ 7 ∷ 14 ∷ 15 ∷ [])
+    ∷ pick_l 0 (a1 ++ a3) (0 ∷ 1 ∷ 8 ∷ 9 ∷ 4 ∷ 5 ∷ 12 ∷ 13 ∷ [])
+    ∷ pick_l 0 (a1 ++ a3) (2 ∷ 3 ∷ 10 ∷ 11 ∷ 6 ∷ 7 ∷ 14 ∷ 15 ∷ []) ∷ []
+
+-- word i of lane j is f j i
+pub exchanged-lanes : (f : ℕ → ℕ → ℕ) (j : ℕ) → j < 8
+    → lane j (exchanged (both f 0) (both f 1) (both f 2) (both f 3)) ≡ map (f j) (range_with_len 0 4)
+exchanged-lanes f =
+    below_eight (λ j. lane j (exchanged (both f 0) (both f 1) (both f 2) (both f 3)) ≡ map (f j) (range_with_len 0 4))
+    refl refl refl refl refl refl refl refl
+
+-- a word of a block
+pub word_from-block : (bytes : List ℕ) (start place n : ℕ) → n < 16 → place ≡ start + 4 * n
+    → word_from bytes place ≡ word_at (take 64 (drop start bytes)) n
+word_from-block bytes start place n n_in is =
+    let byte : (p q : ℕ) → q < 64 → p ≡ start + q → get_or bytes p 0 ≡ get_or (take 64 (drop start bytes)) q 0 =
+    λ p q q_in p_is. ap (λ i. get_or bytes i 0) p_is
+    ∙ sym (get_or-take 64 (drop start bytes) q 0 q_in ∙ get_or-drop start bytes q 0) in
+    let e0 = byte place (4 * n) (omega arith) (omega arith) in
+    let e1 = byte (place + 1) (4 * n + 1) (omega arith) (omega arith) in
+    let e2 = byte (place + 2) (4 * n + 2) (omega arith) (omega arith) in
+    let e3 = byte (place + 3) (4 * n + 3) (omega arith) (omega arith) in
+    λ i. from_le_bytes w32 (e0 i ∷ e1 i ∷ e2 i ∷ e3 i ∷ [])
+
+-- the words of a whole block
+pub words_of-block : (bytes : List ℕ) (start : ℕ) → start + 64 ≤ length bytes
+    → words_of (take 64 (drop start bytes)) ≡ map (word_at (take 64 (drop start bytes))) (range_with_len 0 16)
+unfolding words_of
+words_of-block bytes start fits =
+    let long : length (take 64 (drop start bytes)) ≡ 64 =
+    length-take-le 64 (drop start bytes) (omega (arith, length-drop start bytes)) in
+    ap (λ n. map (word_at (take 64 (drop start bytes))) (range_with_len 0 (n / 4))) long
+
+-- eight counters from `first` on
+abbrev pub counted : ℕ → List ℕ
+counted first =
+    first ∷ (first + 1) ∷ (first + 2) ∷ (first + 3) ∷ (first + 4) ∷ (first + 5) ∷ (first + 6) ∷ (first + 7) ∷ []
+
+pub counted-at : (f : ℕ → ℕ) (first j : ℕ) → j < 8 → get_or (map f (counted first)) j 0 ≡ f (first + j)
+counted-at f first =
+    below_eight (λ j. get_or (map f (counted first)) j 0 ≡ f (first + j))
+    (ap f (sym (add-zero first))) refl refl refl refl refl refl refl
+
+-- a block of a chunk
+pub block-of_chunk : (bytes : List ℕ) (place j k : ℕ) → k < 16 → place ≡ 1024 * j + 64 * k
+    → take 64 (drop place bytes) ≡ take 64 (drop (64 * k) (chunk_at bytes j))
+block-of_chunk bytes place j k k_in is =
+    let rest = drop (1024 * j) bytes in
+    let room : 64 * k + (1024 - 64 * k) ≡ 1024 = omega arith in
+    ap (λ n. take 64 (drop n bytes)) is
+    ∙ ap (take 64) (sym (drop-drop (64 * k) (1024 * j) bytes))
+    ∙ sym (take-take 64 (1024 - 64 * k) (drop (64 * k) rest) (omega arith))
+    ∙ ap (take 64) (sym (drop-take (64 * k) (1024 - 64 * k) rest) ∙ ap (λ n. drop (64 * k) (take n rest)) room)
+
+-- a full chunk of a list of bytes
+pub length-chunk_at : (bytes : List ℕ) (n j : ℕ) → j < n → 1024 * n ≤ length bytes
+    → length (chunk_at bytes j) ≡ 1024
+length-chunk_at bytes n j j_in fits =
+    length-take-le 1024 (drop (1024 * j) bytes) (omega (arith, length-drop (1024 * j) bytes))
+
+-- a whole block of a full chunk
+length-block_at : (chunk : List ℕ) (k : ℕ) → length chunk ≡ 1024 → k < 16
+    → length (take 64 (drop (64 * k) chunk)) ≡ 64
+length-block_at chunk k full k_in =
+    length-take-le 64 (drop (64 * k) chunk) (omega (arith, full, length-drop (64 * k) chunk))
+
+-- what an inner block of a full chunk hands on
+pub carried-full : (mode : Mode) (number : ℕ) (chunk : List ℕ) (k : ℕ) (h m : List ℕ) → length chunk ≡ 1024 → k < 16
+    → h ≡ carried mode number chunk k
+    → m ≡ words_of (take 64 (drop (64 * k) chunk))
+    → take 8 (compress h m number 64 (block_flags mode k)) ≡ carried mode number chunk (k + 1)
+carried-full mode number chunk k h m full k_in h_is m_is =
+    ap chaining (block_node-whole mode number k h m (take 64 (drop (64 * k) chunk))
+    (length-block_at chunk k full k_in) m_is)
+    ∙ carried-suc mode number chunk k 64 h refl h_is
+
+-- the chaining value of a full chunk
+pub chaining-full : (mode : Mode) (number : ℕ) (chunk h m : List ℕ) → length chunk ≡ 1024
+    → h ≡ carried mode number chunk 15
+    → m ≡ words_of (take 64 (drop (64 * 15) chunk))
+    → take 8 (compress h m number 64 (bit_or mode.flag 2)) ≡ chaining (chunk_node mode number chunk)
+unfolding last_block_node
+chaining-full mode number chunk h m full h_is m_is =
+    let last : 15 ≡ last_block chunk = omega (arith, full) in
+    let block = take 64 (drop (64 * 15) chunk) in
+    ap (λ (node : Node). chaining (record node { d = bit_or node.d 2 }))
+    (block_node-whole mode number 15 h m block (length-block_at chunk 15 full (omega arith)) m_is)
+    ∙ ap chaining (chunk_node-last mode number chunk 15 15 64 h last last (omega (arith, full)) h_is)

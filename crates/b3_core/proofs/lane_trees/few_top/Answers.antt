@@ -1,0 +1,40 @@
+use Rattle.std.proofs.Common.{ℕ, ◌+◌, List, length, take, sym, ap, ◌∙◌}
+use Rattle.b3_core.specs.Nodes.{chaining}
+use Rattle.b3_core.specs.Tree.{IsLeft, chunks, parent_node, top}
+use Rattle.b3_core.specs.Lanes.{AreChunkChainings}
+use Rattle.b3_core.proofs.FewChunks.{each-back, each-front}
+use Rattle.b3_core.proofs.Subtrees.{top-parent}
+use Rattle.b3_core.proofs.lane_trees.few_top.Goals as goal
+
+pub joined-left_chaining-requires-clause-each : goal.joined-left_chaining-requires-clause-each
+joined-left_chaining-requires-clause-each c =
+    let mode = c.args.mode.now in
+    let bytes = c.args.bytes.now in
+    let chainings : List (List ℕ) = take c.chunks-total.result c.few_chainings-chainings.result in
+    let all : AreChunkChainings mode c.args.first bytes chainings =
+    rw c.chunks-total.ensures c.few_chainings-chainings.ensures in
+    rw (c.split_at-2.ensures.front, c.split_at.ensures.front)
+    (each-front mode c.args.first c.left-count.result bytes chainings all)
+
+pub joined-right_chaining-requires-clause-each : goal.joined-right_chaining-requires-clause-each
+joined-right_chaining-requires-clause-each c =
+    let mode = c.args.mode.now in
+    let bytes = c.args.bytes.now in
+    let chainings : List (List ℕ) = take c.chunks-total.result c.few_chainings-chainings.result in
+    let all : AreChunkChainings mode c.args.first bytes chainings =
+    rw c.chunks-total.ensures c.few_chainings-chainings.ensures in
+    rw (c.split_at-2.ensures.back, c.split_at.ensures.back)
+    (each-back mode c.args.first c.left-count.result bytes chainings all)
+
+pub returns : goal.returns
+returns c =
+    let mode = c.args.mode.now in
+    let first : ℕ = c.args.first in
+    let bytes = c.args.bytes.now in
+    let l : ℕ = c.left-count.result in
+    let is_left : IsLeft (chunks (length bytes)) l = rw (← c.chunks-total.ensures) c.left-count.ensures in
+    let left_is = c.joined-left_chaining.ensures ∙ ap (λ xs. chaining (top mode first xs)) c.split_at.ensures.front in
+    let right_is = c.joined-right_chaining.ensures
+    ∙ ap (λ xs. chaining (top mode (first + l) xs)) c.split_at.ensures.back in
+    c.parent_node.ensures ∙ (λ i. parent_node mode (left_is i) (right_is i))
+    ∙ sym (top-parent mode first l bytes c.requires.some is_left)

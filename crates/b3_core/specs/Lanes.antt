@@ -1,0 +1,33 @@
+-- Vectors of eight lanes, each a list of eight words, and what lanes are about.
+use Rattle.std.specs.Prelude.{◌≡◌, ℕ, ◌+◌, ◌*◌, ◌<◌, List, [], ◌∷◌, length, map, take, drop, slice_index}
+use Rattle.std.specs.Prelude.{slice_index_or}
+use Rattle.std.specs.Int.{w32, from_le_bytes}
+use Rattle.b3_core.specs.Nodes.{chaining}
+use Rattle.b3_core.specs.Chunks.{chunk_at, chunk_len, chunk_node}
+use Rattle.b3_core.specs.declared.modes.Mode.{Mode}
+
+-- what lane j of a list of vectors holds
+abbrev pub lane : ℕ → List (List ℕ) → List ℕ
+lane j v = map (λ row. slice_index row j) v
+
+-- n vectors, each of eight lanes
+abbrev pub AreWide : ℕ → List (List ℕ) → Type 0
+AreWide n v = (length v ≡ n) × ((i : ℕ) → i < n → length (slice_index_or v i []) ≡ 8)
+
+-- the word from this place of a list of bytes on
+abbrev pub word_from : List ℕ → ℕ → ℕ
+word_from bytes at = from_le_bytes w32
+    (slice_index bytes at ∷ slice_index bytes (at + 1) ∷ slice_index bytes (at + 2) ∷ slice_index bytes (at + 3) ∷ [])
+
+-- part j of an input, of parts of w chunks each
+abbrev pub part : ℕ → ℕ → List ℕ → List ℕ
+part w j input = take (chunk_len * w) (drop (chunk_len * w * j) input)
+
+-- the chaining value of chunk j of an input whose chunks are numbered from `first`
+abbrev pub chunk_chaining : Mode → ℕ → List ℕ → ℕ → List ℕ
+chunk_chaining mode first input j = chaining (chunk_node mode (first + j) (chunk_at input j))
+
+-- the chaining values of the chunks of an input, as far as the list goes
+abbrev pub AreChunkChainings : Mode → ℕ → List ℕ → List (List ℕ) → Type 0
+AreChunkChainings mode first input chainings =
+    (j : ℕ) → j < length chainings → slice_index_or chainings j [] ≡ chunk_chaining mode first input j

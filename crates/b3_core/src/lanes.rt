@@ -1,0 +1,420 @@
+// The compression function (BLAKE3 (2020), 2.2) on eight lanes at once: a vector holds one word of eight
+// compressions. Each contract says of a lane what the definition says of one compression.
+
+ghost use Rattle.std.specs.Prelude.{◌≡◌, ℕ, List, [], ◌++◌, ◌+◌, ◌*◌, ◌/◌, ◌%◌, ◌^◌, ◌<◌, length, map, take, drop};
+ghost use Rattle.std.specs.Prelude.{slice_index, slice_index_or};
+ghost use Rattle.std.specs.Int.{w32, rotate_right};
+ghost use Rattle.b3_core.specs.Compression.{compress, half_g, output, permuted, round, rounds, start};
+ghost use Rattle.b3_core.specs.Lanes.{AreWide, lane};
+
+use crate::compression::INITIAL_VALUE;
+use std::simd::prelude::*;
+
+// Each lane turned right by `r` bits.
+#[inline(always)]
+fn rotated8(x: u32x8, r: u32) -> u32x8
+    requires some { 0 < r }
+    requires below { r < 32 }
+    requires wide { length x ≡ 8 }
+    ensures { result ≡ map (λ n. rotate_right w32 n r) x }
+{
+    (x >> u32x8::splat(r)) | (x << u32x8::splat(32 - r))
+}
+
+// One half of G on each lane, on the places `a`, `b`, `c` and `d` of the state.
+#[inline(always)]
+fn half_g8(
+    v: [u32x8; 16],
+    a: usize,
+    b: usize,
+    c: usize,
+    d: usize,
+    x: u32x8,
+    r: u32,
+    s: u32,
+) -> [u32x8; 16]
+    requires a { a < 16 }
+    requires b { b < 16 }
+    requires c { c < 16 }
+    requires d { d < 16 }
+    requires some { (0 < r) × (0 < s) }
+    requires below { (r < 32) × (s < 32) }
+    requires wide { AreWide 16 v }
+    requires x { length x ≡ 8 }
+    ensures wide { AreWide 16 result }
+    ensures lanes { (j : ℕ) → j < 8 → lane j result ≡ half_g (lane j v) a b c d (slice_index x j) r s }
+{
+    let mut v = v;
+    v[a] = v[a] + v[b] + x;
+    v[d] = rotated8(v[d] ^ v[a], r);
+    v[c] = v[c] + v[d];
+    v[b] = rotated8(v[b] ^ v[c], s);
+    v
+}
+
+// The four Gs on the columns go step by step together, then those on the diagonals: this leaves the
+// processor more to do at once than one G after another.
+#[inline(always)]
+fn round8(v: [u32x8; 16], m: &[u32x8; 16]) -> [u32x8; 16]
+    requires wide { AreWide 16 v }
+    requires message { AreWide 16 m.now }
+    ensures wide { AreWide 16 result }
+    ensures lanes { (j : ℕ) → j < 8 → lane j result ≡ round (lane j v) (lane j m.now) }
+{
+    let v = half_g8(v, 0, 4, 8, 12, m[0], 16, 12);
+    let v = half_g8(v, 1, 5, 9, 13, m[2], 16, 12);
+    let v = half_g8(v, 2, 6, 10, 14, m[4], 16, 12);
+    let v = half_g8(v, 3, 7, 11, 15, m[6], 16, 12);
+    let v = half_g8(v, 0, 4, 8, 12, m[1], 8, 7);
+    let v = half_g8(v, 1, 5, 9, 13, m[3], 8, 7);
+    let v = half_g8(v, 2, 6, 10, 14, m[5], 8, 7);
+    let v = half_g8(v, 3, 7, 11, 15, m[7], 8, 7);
+    let v = half_g8(v, 0, 5, 10, 15, m[8], 16, 12);
+    let v = half_g8(v, 1, 6, 11, 12, m[10], 16, 12);
+    let v = half_g8(v, 2, 7, 8, 13, m[12], 16, 12);
+    let v = half_g8(v, 3, 4, 9, 14, m[14], 16, 12);
+    let v = half_g8(v, 0, 5, 10, 15, m[9], 8, 7);
+    let v = half_g8(v, 1, 6, 11, 12, m[11], 8, 7);
+    let v = half_g8(v, 2, 7, 8, 13, m[13], 8, 7);
+    half_g8(v, 3, 4, 9, 14, m[15], 8, 7)
+}
+
+// Renames the vectors, so it costs nothing once it is inlined.
+#[inline(always)]
+fn permuted8(m: &[u32x8; 16]) -> [u32x8; 16]
+    requires wide { AreWide 16 m.now }
+    ensures wide { AreWide 16 result }
+    ensures lanes { (j : ℕ) → lane j result ≡ permuted (lane j m.now) }
+{
+    [
+        m[2], m[6], m[3], m[10], m[7], m[0], m[4], m[13], m[1], m[11], m[12], m[5], m[9], m[14],
+        m[15], m[8],
+    ]
+}
+
+// Seven rounds, written out: a loop would move the message through memory for each permutation.
+#[inline(always)]
+fn rounds8(v: [u32x8; 16], m: &[u32x8; 16]) -> [u32x8; 16]
+    requires wide { AreWide 16 v }
+    requires message { AreWide 16 m.now }
+    ensures wide { AreWide 16 result }
+    ensures lanes { (j : ℕ) → j < 8 → lane j result ≡ rounds 7 (lane j v) (lane j m.now) }
+{
+    let v = round8(v, m);
+    let m = permuted8(m);
+    let v = round8(v, &m);
+    let m = permuted8(&m);
+    let v = round8(v, &m);
+    let m = permuted8(&m);
+    let v = round8(v, &m);
+    let m = permuted8(&m);
+    let v = round8(v, &m);
+    let m = permuted8(&m);
+    let v = round8(v, &m);
+    let m = permuted8(&m);
+    round8(v, &m)
+}
+
+// The state before the first round, of the chaining values `h`, and of the counters' low and high words.
+#[inline(always)]
+fn start8(h: &[u32x8; 8], low: u32x8, high: u32x8, b: u32, d: u32) -> [u32x8; 16]
+    requires wide { AreWide 8 h.now }
+    requires low { length low ≡ 8 }
+    requires high { length high ≡ 8 }
+    ensures wide { AreWide 16 result }
+    ensures lanes { (j t : ℕ) → j < 8 → slice_index low j ≡ t % 2 ^ 32 → slice_index high j ≡ t / 2 ^ 32
+        → lane j result ≡ start (lane j h.now) t b d }
+{
+    [
+        h[0],
+        h[1],
+        h[2],
+        h[3],
+        h[4],
+        h[5],
+        h[6],
+        h[7],
+        u32x8::splat(INITIAL_VALUE[0]),
+        u32x8::splat(INITIAL_VALUE[1]),
+        u32x8::splat(INITIAL_VALUE[2]),
+        u32x8::splat(INITIAL_VALUE[3]),
+        low,
+        high,
+        u32x8::splat(b),
+        u32x8::splat(d),
+    ]
+}
+
+// The first eight output words, which do not read the chaining values.
+#[inline(always)]
+fn front8(v: &[u32x8; 16]) -> [u32x8; 8]
+    requires wide { AreWide 16 v.now }
+    ensures wide { AreWide 8 result }
+    ensures lanes { (j : ℕ) (h : List ℕ) → j < 8 → lane j result ≡ take 8 (output (lane j v.now) h) }
+{
+    [
+        v[0] ^ v[8],
+        v[1] ^ v[9],
+        v[2] ^ v[10],
+        v[3] ^ v[11],
+        v[4] ^ v[12],
+        v[5] ^ v[13],
+        v[6] ^ v[14],
+        v[7] ^ v[15],
+    ]
+}
+
+// The last eight output words.
+#[inline(always)]
+fn back8(v: &[u32x8; 16], h: &[u32x8; 8]) -> [u32x8; 8]
+    requires wide { AreWide 16 v.now }
+    requires h { AreWide 8 h.now }
+    ensures wide { AreWide 8 result }
+    ensures lanes { (j : ℕ) → j < 8 → lane j result ≡ drop 8 (output (lane j v.now) (lane j h.now)) }
+{
+    [
+        v[8] ^ h[0],
+        v[9] ^ h[1],
+        v[10] ^ h[2],
+        v[11] ^ h[3],
+        v[12] ^ h[4],
+        v[13] ^ h[5],
+        v[14] ^ h[6],
+        v[15] ^ h[7],
+    ]
+}
+
+// The chaining values of eight compressions, of the chaining values `h`, the messages `m`, the low and
+// high words of the counters, one block length `b` and one set of flags `d`. Chunks and parents share
+// it: it is long, and would be in the program once for each caller if it were inlined.
+#[inline(never)]
+pub(crate) fn chainings8(
+    h: &[u32x8; 8],
+    m: &[u32x8; 16],
+    low: u32x8,
+    high: u32x8,
+    b: u32,
+    d: u32,
+) -> [u32x8; 8]
+    requires h { AreWide 8 h.now }
+    requires message { AreWide 16 m.now }
+    requires low { length low ≡ 8 }
+    requires high { length high ≡ 8 }
+    ensures wide { AreWide 8 result }
+    ensures lanes { (j t : ℕ) → j < 8 → slice_index low j ≡ t % 2 ^ 32 → slice_index high j ≡ t / 2 ^ 32
+        → lane j result ≡ take 8 (compress (lane j h.now) (lane j m.now) t b d) }
+{
+    let v = start8(h, low, high, b, d);
+    let v = rounds8(v, m);
+    front8(&v)
+}
+
+// Word `i` of each of eight lists.
+#[inline(always)]
+fn gathered<const N: usize>(lists: &[[u32; N]; 8], i: usize) -> u32x8
+    requires { i < N }
+    ensures { result ≡ map (λ list. slice_index list i) lists.now }
+{
+    u32x8::from_array([
+        lists[0][i],
+        lists[1][i],
+        lists[2][i],
+        lists[3][i],
+        lists[4][i],
+        lists[5][i],
+        lists[6][i],
+        lists[7][i],
+    ])
+}
+
+// That a list has its length. A proof is not told the length of a list within a list.
+#[inline(always)]
+fn known_length<const N: usize>(list: &[u32; N])
+    ensures { length list.now ≡ N }
+{}
+
+#[inline(always)]
+fn known_lengths<const N: usize>(lists: &[[u32; N]; 8])
+    ensures { (j : ℕ) → j < 8 → length (slice_index_or lists.now j []) ≡ N }
+{
+    known_length(&lists[0]);
+    known_length(&lists[1]);
+    known_length(&lists[2]);
+    known_length(&lists[3]);
+    known_length(&lists[4]);
+    known_length(&lists[5]);
+    known_length(&lists[6]);
+    known_length(&lists[7]);
+}
+
+// Lane `j` takes list `j`.
+#[inline(always)]
+fn gathered8(lists: &[[u32; 8]; 8]) -> [u32x8; 8]
+    ensures wide { AreWide 8 result }
+    ensures lanes { (j : ℕ) → j < 8 → lane j result ≡ slice_index_or lists.now j [] }
+{
+    known_lengths(lists);
+    [
+        gathered(lists, 0),
+        gathered(lists, 1),
+        gathered(lists, 2),
+        gathered(lists, 3),
+        gathered(lists, 4),
+        gathered(lists, 5),
+        gathered(lists, 6),
+        gathered(lists, 7),
+    ]
+}
+
+// The same for lists of sixteen words.
+#[inline(always)]
+fn gathered16(lists: &[[u32; 16]; 8]) -> [u32x8; 16]
+    ensures wide { AreWide 16 result }
+    ensures lanes { (j : ℕ) → j < 8 → lane j result ≡ slice_index_or lists.now j [] }
+{
+    known_lengths(lists);
+    [
+        gathered(lists, 0),
+        gathered(lists, 1),
+        gathered(lists, 2),
+        gathered(lists, 3),
+        gathered(lists, 4),
+        gathered(lists, 5),
+        gathered(lists, 6),
+        gathered(lists, 7),
+        gathered(lists, 8),
+        gathered(lists, 9),
+        gathered(lists, 10),
+        gathered(lists, 11),
+        gathered(lists, 12),
+        gathered(lists, 13),
+        gathered(lists, 14),
+        gathered(lists, 15),
+    ]
+}
+
+// What lane `j` holds.
+#[inline(always)]
+pub(crate) fn listed(v: &[u32x8; 8], j: usize) -> [u32; 8]
+    requires in_range { j < 8 }
+    requires wide { AreWide 8 v.now }
+    ensures { result ≡ lane j v.now }
+{
+    [
+        v[0].to_array()[j],
+        v[1].to_array()[j],
+        v[2].to_array()[j],
+        v[3].to_array()[j],
+        v[4].to_array()[j],
+        v[5].to_array()[j],
+        v[6].to_array()[j],
+        v[7].to_array()[j],
+    ]
+}
+
+// What each lane holds.
+#[inline(always)]
+pub(crate) fn all_listed(v: &[u32x8; 8]) -> [[u32; 8]; 8]
+    requires { AreWide 8 v.now }
+    ensures { (j : ℕ) → j < 8 → slice_index_or result j [] ≡ lane j v.now }
+{
+    [
+        listed(v, 0),
+        listed(v, 1),
+        listed(v, 2),
+        listed(v, 3),
+        listed(v, 4),
+        listed(v, 5),
+        listed(v, 6),
+        listed(v, 7),
+    ]
+}
+
+// What lane `j` holds of one list of vectors, and then of another.
+#[inline(always)]
+fn both_listed(front: &[u32x8; 8], back: &[u32x8; 8], j: usize) -> [u32; 16]
+    requires in_range { j < 8 }
+    requires front { AreWide 8 front.now }
+    requires back { AreWide 8 back.now }
+    ensures { result ≡ lane j front.now ++ lane j back.now }
+{
+    [
+        front[0].to_array()[j],
+        front[1].to_array()[j],
+        front[2].to_array()[j],
+        front[3].to_array()[j],
+        front[4].to_array()[j],
+        front[5].to_array()[j],
+        front[6].to_array()[j],
+        front[7].to_array()[j],
+        back[0].to_array()[j],
+        back[1].to_array()[j],
+        back[2].to_array()[j],
+        back[3].to_array()[j],
+        back[4].to_array()[j],
+        back[5].to_array()[j],
+        back[6].to_array()[j],
+        back[7].to_array()[j],
+    ]
+}
+
+// The low words of eight counters, and the high words.
+#[inline(always)]
+pub(crate) fn counters(t: &[u64; 8]) -> (u32x8, u32x8)
+    ensures low { result.0 ≡ map (λ n. n % 2 ^ 32) t.now }
+    ensures high { result.1 ≡ map (λ n. n / 2 ^ 32) t.now }
+{
+    let low = [
+        (t[0] % (1 << 32)) as u32,
+        (t[1] % (1 << 32)) as u32,
+        (t[2] % (1 << 32)) as u32,
+        (t[3] % (1 << 32)) as u32,
+        (t[4] % (1 << 32)) as u32,
+        (t[5] % (1 << 32)) as u32,
+        (t[6] % (1 << 32)) as u32,
+        (t[7] % (1 << 32)) as u32,
+    ];
+    let high = [
+        (t[0] >> 32) as u32,
+        (t[1] >> 32) as u32,
+        (t[2] >> 32) as u32,
+        (t[3] >> 32) as u32,
+        (t[4] >> 32) as u32,
+        (t[5] >> 32) as u32,
+        (t[6] >> 32) as u32,
+        (t[7] >> 32) as u32,
+    ];
+    (u32x8::from_array(low), u32x8::from_array(high))
+}
+
+/// Eight compressions at once (BLAKE3 (2020), 2.2): list `j` of the result has the output words for the
+/// chaining value `h[j]`, the message `m[j]` and the counter `t[j]`, with one block length `b` and one
+/// set of flags `d` for all.
+pub fn compress8(
+    h: &[[u32; 8]; 8],
+    m: &[[u32; 16]; 8],
+    t: &[u64; 8],
+    b: u32,
+    d: u32,
+) -> [[u32; 16]; 8]
+    ensures { (j : ℕ) → j < 8 → slice_index_or result j []
+        ≡ compress (slice_index_or h.now j []) (slice_index_or m.now j []) (slice_index t.now j) b d }
+{
+    let chains = gathered8(h);
+    let message = gathered16(m);
+    let (low, high) = counters(t);
+    let v = start8(&chains, low, high, b, d);
+    let v = rounds8(v, &message);
+    let front = front8(&v);
+    let back = back8(&v, &chains);
+    [
+        both_listed(&front, &back, 0),
+        both_listed(&front, &back, 1),
+        both_listed(&front, &back, 2),
+        both_listed(&front, &back, 3),
+        both_listed(&front, &back, 4),
+        both_listed(&front, &back, 5),
+        both_listed(&front, &back, 6),
+        both_listed(&front, &back, 7),
+    ]
+}

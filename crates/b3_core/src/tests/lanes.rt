@@ -1,0 +1,148 @@
+// The lanes against one compression, one chunk and one parent at a time.
+
+ghost use Rattle.std.specs.Prelude.{◌≡◌, ◌+◌, ◌^◌, ◌<◌, ◌≤◌, length};
+ghost use Rattle.b3_core.specs.Tree.{IsTop, chunks, top};
+ghost use Rattle.b3_core.specs.declared.nodes.Node.{Node};
+
+use super::vectors::{KEY, pattern};
+use super::*;
+use crate::lanes::counters;
+
+// The tree by chunks and parents one at a time, under the contract of `top`.
+fn top_plain(mode: &Mode, first: u64, bytes: &[u8]) -> Node
+    requires { first + chunks (length bytes.now) ≤ 2 ^ 54 }
+    ensures value { result ≡ top mode.now first bytes.now }
+    ensures tree { IsTop mode.now first bytes.now result }
+    ensures only { (node : Node) → IsTop mode.now first bytes.now node → node ≡ result }
+{
+    if bytes.len() <= CHUNK_LEN {
+        return chunk_node(mode, first, bytes);
+    }
+    let count = left(chunks(bytes.len() as u64));
+    let (left_bytes, right_bytes) = bytes.split_at(CHUNK_LEN * count as usize);
+    let left_node = top_plain(mode, first, left_bytes);
+    let right_node = top_plain(mode, first + count, right_bytes);
+    parent_node(mode, &left_node.chaining(), &right_node.chaining())
+}
+
+fn assert_same_top(rt: &impl Abort, mode: &Mode, bytes: &[u8])
+    requires { length bytes.now < 2 ^ 20 }
+{
+    assert_eq!(rt;
+        top(mode, 5, bytes),
+        top_plain(mode, 5, bytes),
+        "{} bytes under the flag {}",
+        bytes.len(),
+        mode.flag
+    );
+}
+
+fn four_modes() -> [Mode; 4] {
+    [
+        Mode::hash(),
+        Mode::keyed(KEY),
+        Mode::context(),
+        Mode::material(KEY),
+    ]
+}
+
+#[test]
+fn tops_of_up_to_three_chunks_in_each_mode(rt: HostRuntime) -> Result<(), Fail> {
+    let bytes = pattern(rt.alloc(), 3000)?;
+    for mode in four_modes() {
+        for len in 0..3001usize {
+            let (part, _) = bytes.split_at(len);
+            assert_same_top(&rt, &mode, part);
+        }
+    }
+    Ok(())
+}
+
+#[test]
+fn tops_where_subtrees_begin_and_end_in_each_mode(rt: HostRuntime) -> Result<(), Fail> {
+    let bytes = pattern(rt.alloc(), 65537)?;
+    for mode in four_modes() {
+        for len in [
+            8191usize, 8192, 8193, 9216, 9217, 16384, 16385, 65536, 65537,
+        ] {
+            let (part, _) = bytes.split_at(len);
+            assert_same_top(&rt, &mode, part);
+        }
+    }
+    Ok(())
+}
+
+#[test]
+fn tops_around_whole_numbers_of_chunks(rt: HostRuntime) -> Result<(), Fail> {
+    let bytes = pattern(rt.alloc(), 70000)?;
+    let mode = Mode::hash();
+    for count in 1..69usize {
+        for more in 0..3usize {
+            let len = CHUNK_LEN * count + more - 1;
+            let (part, _) = bytes.split_at(len);
+            assert_same_top(&rt, &mode, part);
+        }
+    }
+    Ok(())
+}
+
+const FIRST: u64 = 4_294_967_292;
+
+// The counters' low words wrap between lanes 3 and 4, and the high words rise there.
+#[test]
+fn counters_across_2_to_the_32(rt: HostRuntime) -> Result<(), Fail> {
+    let numbers = [
+        FIRST,
+        FIRST + 1,
+        FIRST + 2,
+        FIRST + 3,
+        FIRST + 4,
+        FIRST + 5,
+        FIRST + 6,
+        FIRST + 7,
+    ];
+    let (low, high) = counters(&numbers);
+    assert_eq!(rt;
+        low.to_array(),
+        [
+            4_294_967_292,
+            4_294_967_293,
+            4_294_967_294,
+            4_294_967_295,
+            0,
+            1,
+            2,
+            3
+        ]
+    );
+    assert_eq!(rt; high.to_array(), [0, 0, 0, 0, 1, 1, 1, 1]);
+    let bytes = pattern(rt.alloc(), 8192)?;
+    let mut eight = [0; 8192];
+    eight.copy_from_slice(&bytes);
+    let mode = Mode::keyed(KEY);
+    let chainings = chain8(&mode, FIRST, &eight);
+    for j in 0..8usize {
+        let chunk = &bytes[CHUNK_LEN * j..CHUNK_LEN * j + CHUNK_LEN];
+        assert_eq!(rt;
+            chainings[j],
+            chunk_node(&mode, numbers[j], chunk).chaining(),
+            "lane {j}"
+        );
+    }
+    Ok(())
+}
+
+#[test]
+fn eight_compressions_of_one_block(rt: HostRuntime) {
+    let mode = Mode::hash();
+    let node = chunk_node(&mode, 0, b"abc");
+    let numbers = [0, 1, 2, u64::MAX, 1 << 32, 5, 6, (1 << 32) - 1];
+    let outputs = compress8(&[node.h; 8], &[node.m; 8], &numbers, node.b, node.d);
+    for j in 0..8usize {
+        assert_eq!(rt;
+            outputs[j],
+            compress(&node.h, &node.m, numbers[j], node.b, node.d),
+            "lane {j}"
+        );
+    }
+}

@@ -1,0 +1,70 @@
+// Subtrees and siblings of small trees, drawn by hand.
+
+ghost use Rattle.std.specs.Prelude.{◌≡◌};
+
+use crate::{Span, is_subtree, sibling};
+use std::process::Abort;
+
+fn span(first: u64, count: u64) -> Span
+    ensures first { result.first ≡ first }
+    ensures count { result.count ≡ count }
+{
+    Span { first, count }
+}
+
+fn assert_sibling(rt: &impl Abort, n: u64, of: Span, want: Option<Span>) {
+    assert!(rt; 1 <= n && n <= 1 << 54);
+    assert_eq!(rt; sibling(n, of), want, "{n} chunks");
+}
+
+fn assert_subtree(rt: &impl Abort, n: u64, of: Span, want: bool) {
+    assert!(rt; 1 <= n && n <= 1 << 54);
+    assert_eq!(rt; is_subtree(n, of), want, "{n} chunks");
+}
+
+#[test]
+fn siblings_of_seven_chunks(rt: HostRuntime) {
+    assert_sibling(&rt, 7, span(4, 3), Some(span(0, 4)));
+    assert_sibling(&rt, 7, span(0, 4), Some(span(4, 3)));
+    assert_sibling(&rt, 7, span(6, 1), Some(span(4, 2)));
+    assert_sibling(&rt, 7, span(4, 2), Some(span(6, 1)));
+    assert_sibling(&rt, 7, span(5, 1), Some(span(4, 1)));
+    assert_sibling(&rt, 7, span(1, 2), None);
+    assert_sibling(&rt, 7, span(0, 7), None);
+}
+
+#[test]
+fn siblings_of_five_chunks(rt: HostRuntime) {
+    assert_sibling(&rt, 5, span(4, 1), Some(span(0, 4)));
+    assert_sibling(&rt, 5, span(0, 5), None);
+    assert_sibling(&rt, 5, span(4, 2), None);
+    assert_sibling(&rt, 5, span(2, 0), None);
+}
+
+#[test]
+fn subtrees_of_six_chunks(rt: HostRuntime) {
+    for (first, count) in [(0u64, 6u64), (0, 4), (4, 2), (0, 2), (2, 2), (4, 1), (5, 1)] {
+        assert_subtree(&rt, 6, span(first, count), true);
+    }
+    for (first, count) in [
+        (2u64, 4u64),
+        (0, 3),
+        (1, 2),
+        (4, 3),
+        (6, 1),
+        (3, 0),
+        (u64::MAX, 1),
+        (1, u64::MAX),
+    ] {
+        assert_subtree(&rt, 6, span(first, count), false);
+    }
+}
+
+#[test]
+fn the_greatest_tree(rt: HostRuntime) {
+    let n = 1 << 54;
+    assert_subtree(&rt, n, span(0, n), true);
+    assert_sibling(&rt, n, span(0, n), None);
+    assert_sibling(&rt, n, span(n / 2, n / 2), Some(span(0, n / 2)));
+    assert_sibling(&rt, n, span(n - 1, 1), Some(span(n - 2, 1)));
+}
