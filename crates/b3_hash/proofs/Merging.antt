@@ -1,12 +1,13 @@
 -- The stack of chaining values: the values of one level more, and how a new chunk's value is merged.
-use Rattle.std.proofs.Common.{◌≡◌, ℕ, zero, suc, ◌+◌, ◌-◌, ◌*◌, ◌/◌, ◌%◌, ◌^◌, ◌<◌, ◌≤◌, List, [], ◌∷◌, ◌++◌, length, inl, inr, refl, sym, ap, ◌∙◌, add-one, arith}
-use Rattle.std.proofs.Math.Nat.{mul-div-le}
+use Rattle.std.proofs.Common.{◌≡◌, ℕ, zero, suc, ◌+◌, ◌-◌, ◌*◌, ◌/◌, ◌%◌, ◌^◌, ◌<◌, ◌≤◌, List, [], ◌∷◌, ◌++◌, length}
+use Rattle.std.proofs.Common.{inl, inr, refl, sym, ap, ◌∙◌, add-one, arith}
+use Rattle.std.proofs.Math.Nat.{pow-suc}
 use Rattle.std.proofs.lemmas.List.{same_from_push}
 use Rattle.b3_core.specs.Nodes.{chaining}
 use Rattle.b3_core.specs.Tree.{parent_node}
 use Rattle.b3_core.specs.declared.modes.Mode.{Mode}
 use Rattle.b3_hash.specs.Stacks.{stack_of, subtree}
-use Rattle.b3_hash.proofs.Digits.{bytes-half, div-pow-suc, parity}
+use Rattle.b3_hash.proofs.ChunkCounts.{bytes-above, bytes-half, div-pow-suc, parity}
 use Rattle.b3_hash.proofs.Runs.{subtree-append, subtree-suc}
 
 -- where n is even, the runs go in pairs
@@ -49,72 +50,124 @@ stack_of-append (suc digits) level mode input more n within =
           ∙ sym (stack_of-odd digits level mode input n odd)
     ]
 
--- the closed chunks are `total`, the last of them new; the last run of 2 ^ level chunks, which ends with
--- it, has this value, and the stack is that of the runs before
-pub record IsMerged (mode : Mode) (input : List ℕ) (total level : ℕ) (values : List (List ℕ)) (value : List ℕ) : Type 0 where
-  pub last : value ≡ subtree mode level input (total / 2 ^ level - 1)
-  pub before : values ≡ stack_of (54 - level) level mode input (total / 2 ^ level - 1)
-  pub whole : stack_of (54 - level) level mode input (total / 2 ^ level) ≡ stack_of 54 0 mode input total
+-- `total` runs of a level, the last of them new; the last run of 2 ^ rise of them, which ends with it,
+-- has this value, and the stack is that of the runs before
+pub record IsMerged (mode : Mode) (input : List ℕ) (digits base total rise : ℕ) (values : List (List ℕ))
+    (value : List ℕ) : Type 0 where
+  pub last : value ≡ subtree mode (base + rise) input (total / 2 ^ rise - 1)
+  pub before : values ≡ stack_of (digits - rise) (base + rise) mode input (total / 2 ^ rise - 1)
+  pub whole : stack_of (digits - rise) (base + rise) mode input (total / 2 ^ rise)
+      ≡ stack_of digits base mode input total
 
 -- two runs of a level become one run of the next
-pub IsMerged-suc : (mode : Mode) (input : List ℕ) (total level : ℕ) (values others : List (List ℕ)) (value left next : List ℕ)
-    → IsMerged mode input total level values value
-    → level < 54 → 1024 * total ≤ length input
-    → 0 < total / 2 ^ level → total / 2 ^ level % 2 ≡ 0
+pub IsMerged-suc : (mode : Mode) (input : List ℕ) (digits base total rise : ℕ)
+    → (values others : List (List ℕ)) (value left next : List ℕ)
+    → IsMerged mode input digits base total rise values value
+    → rise < digits → 1024 * 2 ^ base * total ≤ length input
+    → 0 < total / 2 ^ rise → total / 2 ^ rise % 2 ≡ 0
     → values ≡ others ++ left ∷ []
     → next ≡ chaining (parent_node mode left value)
-    → IsMerged mode input total (level + 1) others next
-IsMerged-suc mode input total level values others value left next merged high long some even popped next_is =
-    let n = total / 2 ^ level in
-    let digits = 54 - suc level in
+    → IsMerged mode input digits base total (rise + 1) others next
+IsMerged-suc mode input digits base total rise values others value left next merged high long some even popped next_is =
+    let n = total / 2 ^ rise in
+    let level = base + rise in
+    let fewer = digits - suc rise in
     let i = n / 2 - 1 in
-    let half : total / 2 ^ suc level ≡ n / 2 = div-pow-suc total level in
-    let digits_is : 54 - level ≡ suc digits = omega arith in
+    let half : total / 2 ^ suc rise ≡ n / 2 = div-pow-suc total rise in
+    let digits_is : digits - rise ≡ suc fewer = omega arith in
     let odd : (n - 1) % 2 ≡ 1 = omega arith in
     let pair : (n - 1) / 2 ≡ i = omega arith in
     let left_is : n - 1 - 1 ≡ 2 * i = omega arith in
     let right_is : n - 1 ≡ 2 * i + 1 = omega arith in
     let runs : 2 * i + 2 ≡ n = omega arith in
-    let all : 2 ^ level * n ≤ total = mul-div-le total (2 ^ level) in
+    let all : 1024 * 2 ^ level * n ≤ 1024 * 2 ^ base * total = bytes-above base rise total in
     let within : 1024 * 2 ^ level * (2 * i + 2) ≤ length input = rw runs (omega arith) in
-    let stack : others ++ left ∷ [] ≡ stack_of digits (suc level) mode input i ++ subtree mode level input (2 * i) ∷ [] =
+    let stack : others ++ left ∷ [] ≡ stack_of fewer (suc level) mode input i ++ subtree mode level input (2 * i) ∷ [] =
     sym popped
     ∙ merged.before
     ∙ ap (λ d. stack_of d level mode input (n - 1)) digits_is
-    ∙ stack_of-odd digits level mode input (n - 1) odd
-    ∙ (λ j. stack_of digits (suc level) mode input (pair j) ++ subtree mode level input (left_is j) ∷ []) in
-    let parts = same_from_push others (stack_of digits (suc level) mode input i) left (subtree mode level input (2 * i)) stack in
+    ∙ stack_of-odd fewer level mode input (n - 1) odd
+    ∙ (λ j. stack_of fewer (suc level) mode input (pair j) ++ subtree mode level input (left_is j) ∷ []) in
+    let parts =
+    same_from_push others (stack_of fewer (suc level) mode input i) left (subtree mode level input (2 * i)) stack in
     let right : value ≡ subtree mode level input (2 * i + 1) = merged.last ∙ ap (subtree mode level input) right_is in
-    let above : total / 2 ^ suc level - 1 ≡ i = ap (λ k. k - 1) half in
+    let above : total / 2 ^ suc rise - 1 ≡ i = ap (λ k. k - 1) half in
+    let up : suc level ≡ base + suc rise = omega arith in
     rw add-one (record {
       last = next_is
           ∙ (λ j. chaining (parent_node mode (parts.1 j) (right j)))
           ∙ sym (subtree-suc level mode input i within)
-          ∙ ap (subtree mode (suc level) input) (sym above);
-      before = parts.0 ∙ ap (stack_of digits (suc level) mode input) (sym above);
-      whole = ap (stack_of digits (suc level) mode input) half
-          ∙ sym (stack_of-even digits level mode input n even)
+          ∙ (λ j. subtree mode (up j) input (sym above j));
+      before = parts.0 ∙ (λ j. stack_of fewer (up j) mode input (sym above j));
+      whole = (λ j. stack_of fewer (sym up j) mode input (half j))
+          ∙ sym (stack_of-even fewer level mode input n even)
           ∙ ap (λ d. stack_of d level mode input n) (sym digits_is)
           ∙ merged.whole;
     })
 
 -- an odd number of runs: the last one stays for itself
-pub IsMerged-odd : (mode : Mode) (input : List ℕ) (total level : ℕ) (values : List (List ℕ)) (value : List ℕ)
-    → IsMerged mode input total level values value
-    → level < 54 → total / 2 ^ level % 2 ≡ 1
-    → values ++ value ∷ [] ≡ stack_of 54 0 mode input total
-IsMerged-odd mode input total level values value merged high odd =
-    let n = total / 2 ^ level in
-    let digits = 54 - suc level in
-    let digits_is : 54 - level ≡ suc digits = omega arith in
+pub IsMerged-odd : (mode : Mode) (input : List ℕ) (digits base total rise : ℕ) (values : List (List ℕ)) (value : List ℕ)
+    → IsMerged mode input digits base total rise values value
+    → rise < digits → total / 2 ^ rise % 2 ≡ 1
+    → values ++ value ∷ [] ≡ stack_of digits base mode input total
+IsMerged-odd mode input digits base total rise values value merged high odd =
+    let n = total / 2 ^ rise in
+    let level = base + rise in
+    let fewer = digits - suc rise in
+    let digits_is : digits - rise ≡ suc fewer = omega arith in
     let even : (n - 1) % 2 ≡ 0 = omega arith in
     let pair : (n - 1) / 2 ≡ n / 2 = omega arith in
-    let stack : values ≡ stack_of digits (suc level) mode input (n / 2) =
+    let stack : values ≡ stack_of fewer (suc level) mode input (n / 2) =
     merged.before
     ∙ ap (λ d. stack_of d level mode input (n - 1)) digits_is
-    ∙ stack_of-even digits level mode input (n - 1) even
-    ∙ ap (stack_of digits (suc level) mode input) pair in
+    ∙ stack_of-even fewer level mode input (n - 1) even
+    ∙ ap (stack_of fewer (suc level) mode input) pair in
     (λ j. stack j ++ merged.last j ∷ [])
-    ∙ sym (stack_of-odd digits level mode input n odd)
+    ∙ sym (stack_of-odd fewer level mode input n odd)
     ∙ ap (λ d. stack_of d level mode input n) (sym digits_is)
     ∙ merged.whole
+
+-- nothing is merged yet
+pub IsMerged-none : (mode : Mode) (input : List ℕ) (digits base total : ℕ) (values : List (List ℕ)) (value : List ℕ)
+    → value ≡ subtree mode base input (total - 1)
+    → values ≡ stack_of digits base mode input (total - 1)
+    → IsMerged mode input digits base total 0 values value
+IsMerged-none mode input digits base total values value value_is values_is =
+    let one : total / 2 ^ 0 ≡ total = omega arith in
+    let less : total - 1 ≡ total / 2 ^ 0 - 1 = omega arith in
+    let level : base ≡ base + 0 = omega arith in
+    let all : digits ≡ digits - 0 = omega arith in record {
+      last = value_is ∙ (λ j. subtree mode (level j) input (less j));
+      before = values_is ∙ (λ j. stack_of (all j) (level j) mode input (less j));
+      whole = λ j. stack_of (sym all j) (sym level j) mode input (one j);
+    }
+
+-- the stack over whole runs of a level is that of the level
+pub stack_of-level : (rise digits base : ℕ) (mode : Mode) (input : List ℕ) (n : ℕ)
+    → stack_of (rise + digits) base mode input (2 ^ rise * n) ≡ stack_of digits (base + rise) mode input n
+stack_of-level zero digits base mode input n =
+    let one : 2 ^ 0 * n ≡ n = omega arith in
+    let level : base ≡ base + 0 = omega arith in
+    let all : 0 + digits ≡ digits = omega arith in
+    λ j. stack_of (all j) (level j) mode input (one j)
+stack_of-level (suc rise) digits base mode input n =
+    let twice : 2 ^ suc rise * n ≡ 2 * (2 ^ rise * n) = ap (λ p. p * n) (pow-suc 2 rise) ∙ omega arith in
+    let even : 2 ^ suc rise * n % 2 ≡ 0 = omega arith in
+    let half : 2 ^ suc rise * n / 2 ≡ 2 ^ rise * n = omega arith in
+    let level : suc base + rise ≡ base + suc rise = omega arith in
+    let more : suc rise + digits ≡ suc (rise + digits) = omega arith in
+    ap (λ d. stack_of d base mode input (2 ^ suc rise * n)) more
+    ∙ stack_of-even (rise + digits) base mode input (2 ^ suc rise * n) even
+    ∙ ap (stack_of (rise + digits) (suc base) mode input) half
+    ∙ stack_of-level rise digits (suc base) mode input n
+    ∙ ap (λ l. stack_of digits l mode input n) level
+
+-- the stack over whole runs of a level, of all digits
+pub stack_of-runs : (level : ℕ) (mode : Mode) (input : List ℕ) (n count : ℕ) → level ≤ 54 → 2 ^ level * n ≡ count
+    → stack_of 54 0 mode input count ≡ stack_of (54 - level) level mode input n
+stack_of-runs level mode input n count low whole =
+    let digits : 54 ≡ level + (54 - level) = omega arith in
+    let same : 0 + level ≡ level = omega arith in
+    (λ i. stack_of (digits i) 0 mode input (sym whole i))
+    ∙ stack_of-level level (54 - level) 0 mode input n
+    ∙ ap (λ l. stack_of (54 - level) l mode input n) same

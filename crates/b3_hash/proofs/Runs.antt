@@ -1,7 +1,9 @@
 -- Runs of 2 ^ level chunks, and the subtrees over them.
-use Rattle.std.proofs.Common.{◌≡◌, ℕ, suc, ◌+◌, ◌-◌, ◌*◌, ◌^◌, ◌<◌, ◌≤◌, List, ◌++◌, length, take, drop, sym, ap, ◌∙◌, arith}
+use Rattle.std.proofs.Common.{◌≡◌, ℕ, suc, ◌+◌, ◌-◌, ◌*◌, ◌/◌, ◌%◌, ◌^◌, ◌<◌, ◌≤◌, List, ◌++◌, length, take, drop}
+use Rattle.std.proofs.Common.{sym, ap, ◌∙◌, arith}
 use Rattle.std.proofs.Math.Nat.{pow-suc}
-use Rattle.std.proofs.lemmas.List.{length-take, length-take-le, length-drop, drop-drop, drop_at, drop-take, take-take, take-append-le, drop-append-le}
+use Rattle.std.proofs.lemmas.List.{length-take-le, length-drop, drop-drop, drop_at, drop-take, take-take, take_all}
+use Rattle.std.proofs.lemmas.List.{take-append-le, drop-append-le}
 use Rattle.std.proofs.lemmas.Nat.{pow_pos}
 use Rattle.b3_core.specs.Nodes.{chaining}
 use Rattle.b3_core.specs.Chunks.{chunk_node}
@@ -10,7 +12,7 @@ use Rattle.b3_core.specs.declared.modes.Mode.{Mode}
 use Rattle.b3_core.specs.declared.nodes.Node.{Node}
 use Rattle.b3_core.proofs.Subtrees.{top-chunk, top-joined}
 use Rattle.b3_hash.specs.Stacks.{run, subtree}
-use Rattle.b3_hash.proofs.Digits.{bytes-suc, chunks-suc}
+use Rattle.b3_hash.proofs.ChunkCounts.{bytes-suc, chunks-suc, whole-runs}
 
 -- the bytes from a place behind the first n
 pub drop-behind : (before bytes : List ℕ) (n more : ℕ) → length before ≡ n
@@ -97,18 +99,25 @@ subtree-append level mode input more i within =
     ∙ take-append-le n (drop (n * i) input) more (omega arith) in
     ap (λ bytes. chaining (top mode (2 ^ level * i) bytes)) same
 
--- a run of level 0 is a chunk
-pub subtree-chunk : (mode : Mode) (input chunk : List ℕ) (count : ℕ) (value : List ℕ) (node : Node)
-    → chunk ≡ take 1024 (drop (1024 * count) input)
-    → node ≡ chunk_node mode count chunk → value ≡ chaining node
-    → value ≡ subtree mode 0 input count
+-- the run behind a whole number of runs of its level
+pub subtree-at : (level : ℕ) (mode : Mode) (input : List ℕ) (count : ℕ) → count % 2 ^ level ≡ 0
+    → subtree mode level input (count / 2 ^ level)
+    ≡ chaining (top mode count (take (1024 * 2 ^ level) (drop (1024 * count) input)))
 unfolding subtree
-subtree-chunk mode input chunk count value node chunk_is node_is value_is =
-    let bytes = take 1024 (drop (1024 * count) input) in
-    let first : count ≡ 2 ^ 0 * count = omega arith in
-    let fits : length bytes ≤ 1024 = omega (arith, length-take 1024 (drop (1024 * count) input)) in
+subtree-at level mode input count aligned =
+    let first : 2 ^ level * (count / 2 ^ level) ≡ count = whole-runs level count aligned in
+    let from : 1024 * 2 ^ level * (count / 2 ^ level) ≡ 1024 * count = search (arith, first) in
+    λ i. chaining (top mode (first i) (take (1024 * 2 ^ level) (drop (from i) input)))
+
+-- a last run of level 0, which is a chunk
+pub subtree-chunk : (mode : Mode) (input : List ℕ) (count : ℕ) (value : List ℕ) (node : Node)
+    → length (drop (1024 * count) input) ≤ 1024
+    → node ≡ chunk_node mode count (drop (1024 * count) input) → value ≡ chaining node
+    → value ≡ subtree mode 0 input (count / 2 ^ 0)
+subtree-chunk mode input count value node short node_is value_is =
+    let rest = drop (1024 * count) input in
     value_is
     ∙ ap chaining (node_is
-    ∙ ap (chunk_node mode count) chunk_is
-    ∙ sym (top-chunk mode count bytes fits)
-    ∙ ap (λ k. top mode k bytes) first)
+    ∙ sym (top-chunk mode count rest short)
+    ∙ ap (top mode count) (sym (take_all (1024 * 2 ^ 0) rest (omega arith))))
+    ∙ sym (subtree-at 0 mode input count (omega arith))

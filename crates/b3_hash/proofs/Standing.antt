@@ -1,14 +1,20 @@
 -- A hasher and the bytes that it stands for.
-use Rattle.std.proofs.Common.{◌≡◌, ℕ, ◌+◌, ◌-◌, ◌*◌, ◌<◌, ◌≤◌, List, [], ◌++◌, length, drop, sym, ap, ◌∙◌, subst, inl, inr, arith}
-use Rattle.std.proofs.lemmas.List.{length-append, length-drop, length-take, drop_all, drop-append-le}
+use Rattle.std.proofs.Common.{◌≡◌, ℕ, ◌+◌, ◌-◌, ◌*◌, ◌/◌, ◌%◌, ◌^◌, ◌<◌, ◌≤◌, List, [], ◌++◌, Option, None, Some}
+use Rattle.std.proofs.Common.{length, take, drop, sym, ap, ◌∙◌, subst, inl, inr, arith}
+use Rattle.std.proofs.lemmas.List.{length-append, length-drop, length-take, drop_all, drop_at, drop-append-le, take_all}
 use Rattle.std.proofs.lemmas.Bool.{cases_lt}
+use Rattle.b3_core.specs.Nodes.{chaining}
+use Rattle.b3_core.specs.Tree.{top}
 use Rattle.b3_core.specs.declared.modes.Mode.{Mode}
+use Rattle.b3_core.specs.declared.nodes.Node.{Node}
 use Rattle.b3_hash.specs.declared.open_chunk.OpenChunk.{OpenChunk}
 use Rattle.b3_hash.specs.OpenChunks.{Begun, IsBegun, begun_len, begun_of}
-use Rattle.b3_hash.specs.Stacks.{stack_of}
-use Rattle.b3_hash.specs.Hashers.{IsAllClosed, StandsFor, State, length_of}
+use Rattle.b3_hash.specs.Stacks.{stack_of, subtree}
+use Rattle.b3_hash.specs.ChunkHashers.{Chunks, EndsWithChunk, IsAllClosed, chunks_len}
+use Rattle.b3_hash.specs.declared.hasher.Window.{Window}
+use Rattle.b3_hash.specs.Hashers.{EndsWith, EndsWithWindow, StandsFor, State, length_of, window_len}
 use Rattle.b3_hash.proofs.BegunChunks.{IsBegun-nil}
-use Rattle.b3_hash.proofs.Runs.{drop-behind}
+use Rattle.b3_hash.proofs.Runs.{drop-behind, subtree-at}
 use Rattle.b3_hash.proofs.Merging.{stack_of-append}
 
 -- the length of an open chunk, by its fields
@@ -16,21 +22,23 @@ pub begun_len-begun_of : (chunk : OpenChunk) → begun_len (begun_of chunk) ≡ 
 begun_len-begun_of chunk =
     omega (arith, length-take chunk.block_len chunk.block, chunk.block_size, chunk.block_fits)
 
--- what a hasher stands for has its length
-pub length-StandsFor : (state : State) (input : List ℕ) → StandsFor state input → length input ≡ length_of state
-length-StandsFor state input held =
+-- what ends with a chunk has the length of the chunks
+pub length-EndsWithChunk : (chunks : Chunks) (input : List ℕ) → EndsWithChunk chunks input
+    → length input ≡ chunks_len chunks
+length-EndsWithChunk chunks input held =
     let len = held.begun.has_bytes.len in
     let closed = held.closed in
-    omega (arith, length-drop (1024 * state.count) input)
+    omega (arith, length-drop (1024 * chunks.count) input)
 
 -- further bytes of the last chunk
-pub StandsFor-append : (mode : Mode) (count : ℕ) (stack : List (List ℕ)) (begun after : Begun) (before front : List ℕ)
-    → StandsFor (record { mode = mode; count = count; stack = stack; begun = begun }) before
+pub EndsWithChunk-append : (mode : Mode) (count : ℕ) (stack : List (List ℕ)) (begun after : Begun)
+    → (before front : List ℕ)
+    → EndsWithChunk (record { mode = mode; count = count; stack = stack; begun = begun }) before
     → begun_len begun + length front ≤ 1024
     → IsBegun mode count after (drop (1024 * count) before ++ front)
-    → StandsFor (record { mode = mode; count = count; stack = stack; begun = after }) (before ++ front)
-StandsFor-append mode count stack begun after before front held room after_is =
-    let len = length-StandsFor (record { mode = mode; count = count; stack = stack; begun = begun }) before held in
+    → EndsWithChunk (record { mode = mode; count = count; stack = stack; begun = after }) (before ++ front)
+EndsWithChunk-append mode count stack begun after before front held room after_is =
+    let len = length-EndsWithChunk (record { mode = mode; count = count; stack = stack; begun = begun }) before held in
     let whole = length-append before front in
     let closed = held.closed in record {
       stack = held.stack ∙ sym (stack_of-append 54 0 mode before front count held.closed);
@@ -41,15 +49,17 @@ StandsFor-append mode count stack begun after before front held room after_is =
     }
 
 -- bytes behind whole chunks: all chunks but the last are closed, and the last is begun
-pub StandsFor-begin : (mode : Mode) (start count : ℕ) (stack : List (List ℕ)) (after : Begun) (before input rest : List ℕ)
+pub EndsWithChunk-begin : (mode : Mode) (start count : ℕ) (stack : List (List ℕ)) (after : Begun)
+    → (before input rest : List ℕ)
     → length before ≡ 1024 * start → start ≤ count
     → 1024 * count + length rest ≡ 1024 * start + length input
     → rest ≡ drop (1024 * (count - start)) input
     → (0 < start → 0 < length input) → (0 < length input → 0 < length rest) → length rest ≤ 1024
     → stack ≡ stack_of 54 0 mode (before ++ input) count
     → IsBegun mode count after rest
-    → StandsFor (record { mode = mode; count = count; stack = stack; begun = after }) (before ++ input)
-StandsFor-begin mode start count stack after before input rest len order both rest_is more some fits stack_is after_is =
+    → EndsWithChunk (record { mode = mode; count = count; stack = stack; begun = after }) (before ++ input)
+EndsWithChunk-begin mode start count stack after before input rest len order both rest_is more some fits stack_is
+    after_is =
     let whole = length-append before input in
     let from : 1024 * start + 1024 * (count - start) ≡ 1024 * count = omega arith in
     let behind : rest ≡ drop (1024 * count) (before ++ input) =
@@ -67,27 +77,81 @@ StandsFor-begin mode start count stack after before input rest len order both re
     }
 
 -- a hasher with no begun chunk has no bytes, so all its chunks are closed
-pub IsAllClosed-none : (state : State) (input : List ℕ) → StandsFor state input → begun_len state.begun ≡ 0
-    → IsAllClosed state input
-IsAllClosed-none state input held empty =
-    let len = length-StandsFor state input held in
-    let none : drop (1024 * state.count) input ≡ [] = drop_all (1024 * state.count) input (omega arith) in record {
+pub IsAllClosed-none : (chunks : Chunks) (input : List ℕ) → EndsWithChunk chunks input → begun_len chunks.begun ≡ 0
+    → IsAllClosed chunks input
+IsAllClosed-none chunks input held empty =
+    let len = length-EndsWithChunk chunks input held in
+    let none : drop (1024 * chunks.count) input ≡ [] = drop_all (1024 * chunks.count) input (omega arith) in record {
       stack = held.stack;
-      begun = λ number. IsBegun-nil state.mode state.count number state.begun
-          (subst (IsBegun state.mode state.count state.begun) none held.begun);
+      begun = λ number. IsBegun-nil chunks.mode chunks.count number chunks.begun
+          (subst (IsBegun chunks.mode chunks.count chunks.begun) none held.begun);
       whole = omega arith;
     }
 
 -- the last chunk, which is full, is closed
-pub IsAllClosed-close : (mode : Mode) (count next : ℕ) (stack stack_next : List (List ℕ)) (begun fresh : Begun) (input : List ℕ)
-    → StandsFor (record { mode = mode; count = count; stack = stack; begun = begun }) input
+pub IsAllClosed-close : (mode : Mode) (count next : ℕ) (stack stack_next : List (List ℕ)) (begun fresh : Begun)
+    → (input : List ℕ)
+    → EndsWithChunk (record { mode = mode; count = count; stack = stack; begun = begun }) input
     → begun_len begun ≡ 1024 → next ≡ count + 1
     → stack_next ≡ stack_of 54 0 mode input (count + 1)
     → ((number : ℕ) → IsBegun mode number fresh [])
     → IsAllClosed (record { mode = mode; count = next; stack = stack_next; begun = fresh }) input
 IsAllClosed-close mode count next stack stack_next begun fresh input held full next_is stack_is fresh_is =
-    let len = length-StandsFor (record { mode = mode; count = count; stack = stack; begun = begun }) input held in record {
+    let chunks : Chunks = record { mode = mode; count = count; stack = stack; begun = begun } in
+    let len = length-EndsWithChunk chunks input held in record {
       stack = stack_is ∙ ap (stack_of 54 0 mode input) (sym next_is);
       begun = fresh_is;
       whole = omega arith;
     }
+
+-- the next chunks, a subtree of some level, are closed
+pub IsAllClosed-push : (mode : Mode) (count next level : ℕ) (stack after : List (List ℕ)) (begun : Begun)
+    → (before bytes : List ℕ) (node : Node) (value : List ℕ)
+    → IsAllClosed (record { mode = mode; count = count; stack = stack; begun = begun }) before
+    → length bytes ≡ 1024 * 2 ^ level → count % 2 ^ level ≡ 0
+    → node ≡ top mode count bytes → value ≡ chaining node
+    → next ≡ count + 2 ^ level
+    → ((input : List ℕ) → 1024 * (count + 2 ^ level) ≤ length input
+    → value ≡ subtree mode level input (count / 2 ^ level)
+    → stack ≡ stack_of 54 0 mode input count
+    → after ≡ stack_of 54 0 mode input (count + 2 ^ level))
+    → IsAllClosed (record { mode = mode; count = next; stack = after; begun = begun }) (before ++ bytes)
+IsAllClosed-push mode count next level stack after begun before bytes node value closed len aligned node_is value_is
+    next_is pushed =
+    let input = before ++ bytes in
+    let before_len = closed.whole in
+    let input_len = length-append before bytes in
+    let within : 1024 * 2 ^ 0 * count ≤ length before =
+    (let plain : 1024 * 1 * count ≤ length before = omega arith in plain) in
+    let behind : take (1024 * 2 ^ level) (drop (1024 * count) input) ≡ bytes =
+    ap (take (1024 * 2 ^ level)) (drop_at before bytes (1024 * count) before_len)
+    ∙ take_all (1024 * 2 ^ level) bytes (omega arith) in
+    let subtree_is =
+    value_is
+    ∙ ap chaining (node_is ∙ ap (top mode count) (sym behind))
+    ∙ sym (subtree-at level mode input count aligned) in
+    record {
+      stack = pushed input (omega (arith, input_len, len, before_len)) subtree_is
+          (closed.stack ∙ sym (stack_of-append 54 0 mode before bytes count within))
+          ∙ ap (stack_of 54 0 mode input) (sym next_is);
+      begun = closed.begun;
+      whole = omega (arith, input_len, len, before_len, next_is);
+    }
+
+-- what ends with a window has the length of both parts
+pub length-EndsWithWindow : (chunks : Chunks) (window : Window) (input : List ℕ) → EndsWithWindow chunks window input
+    → length input ≡ chunks_len chunks + 1024 * 2 ^ window.level
+length-EndsWithWindow chunks window input held =
+    let parts = ap length held.parts ∙ length-append held.before held.bytes in
+    let empty = (held.closed.begun 0).has_bytes.len in
+    omega (arith, parts, empty, held.closed.whole, held.size)
+
+-- what ends with a window or with a chunk
+length-EndsWith : (chunks : Chunks) (window : Option Window) (input : List ℕ) → EndsWith chunks window input
+    → length input ≡ chunks_len chunks + window_len window
+length-EndsWith chunks None input held = let len = length-EndsWithChunk chunks input held in omega arith
+length-EndsWith chunks (Some window) input held = length-EndsWithWindow chunks window input held
+
+-- what a hasher stands for has its length
+pub length-StandsFor : (state : State) (input : List ℕ) → StandsFor state input → length input ≡ length_of state
+length-StandsFor state input held = length-EndsWith state.chunks state.window input held

@@ -5,4 +5,6 @@ pub mod Readers
 pub mod Derivation
 pub mod OpenChunks
 pub mod Stacks
+pub mod ChunkHashers
 pub mod Hashers
+pub mod Laws

@@ -1,16 +1,17 @@
-ghost use Rattle.std.specs.Prelude.{◌≡◌, ℕ, ◌+◌, ◌*◌, ◌^◌, ◌<◌, ◌≤◌, ◌↔◌, [], ◌++◌, List, Some, codes, length, IsErr, OnErr, OnOk};
+// The incremental hash of an input (BLAKE3 (2020), 5.1).
 
-use crate::open_chunk::OpenChunk;
+ghost use Rattle.std.specs.Prelude.{◌≡◌, ℕ, ◌+◌, ◌*◌, ◌/◌, ◌%◌, ◌^◌, ◌<◌, ◌≤◌, ◌↔◌, [], ◌++◌, List, None, Some};
+ghost use Rattle.std.specs.Prelude.{codes, length, IsErr, OnErr, OnOk};
+
+use crate::chunk_hasher::ChunkHasher;
 use crate::output::Xof;
-use crate::subtrees::Subtrees;
+use crate::subtrees::subtree_len;
 use b3_core::{Mode, Node};
 use std::error::Error;
 use std::fmt;
 use std::marker::Model;
 
-const CHUNK_LEN: usize = 1024;
-
-/// The input would have 2^64 bytes or more.
+/// Refusal 1 of this crate: the input would have 2^64 bytes or more.
 #[derive(Clone, Copy, Debug, PartialEq, Eq)]
 pub struct TooLong;
 
@@ -24,58 +25,95 @@ impl fmt::Display for TooLong {
 
 impl Error for TooLong {}
 
-/// The hash of an input that comes piece by piece, of any lengths (BLAKE3 (2020), 5.1).
+/// Why a window is refused. The numbers are those of this crate's refusals.
+#[derive(Clone, Copy, Debug, PartialEq, Eq)]
+pub enum WindowFault {
+    /// The level is over 53, or the input so far is no multiple of the window's length.
+    Unaligned = 3,
+    /// The input would have 2^64 bytes or more.
+    TooLong = 4,
+}
+
+impl fmt::Display for WindowFault {
+    ghost use Rattle.b3_hash.specs.Hashers.{window_fault_text};
+
+    ghost output = { λ fault. Some (window_fault_text fault) };
+
+    fn fmt<W: fmt::Write>(&self, f: &mut fmt::Formatter<W>) -> fmt::Result {
+        match self {
+            WindowFault::Unaligned => write!(f, "the window is at no multiple of its length"),
+            WindowFault::TooLong => write!(f, "the input has 2^64 bytes or more"),
+        }
+    }
+}
+
+impl Error for WindowFault {}
+
+// The last 2^level chunks of an input, by the node of their subtree. It is not compressed yet, since it
+// may be the root.
+#[derive(Clone, Copy)]
+pub(crate) struct Window {
+    node: Node,
+    level: u32,
+}
+
+/// The hash of an input that comes piece by piece, of any lengths, and in windows: runs of whole chunks
+/// whose nodes are already made (BLAKE3 (2020), 5.1).
 ///
-/// No call takes memory. The last chunk stays open until a further byte comes, also where it is full,
-/// since it may be the root.
-#[derive(Debug, Drop)]
+/// No call takes memory. The last chunk, or the last window, stays open until a further byte comes, since
+/// it may be the root.
+#[derive(Drop)]
 pub struct Hasher {
-    mode: Mode,
-    closed: Subtrees,
-    last: OpenChunk,
+    chunks: ChunkHasher,
+    window: Option<Window>,
+}
+
+// Shows no key: neither the mode nor what was made from it.
+impl fmt::Debug for Hasher {
+    fn fmt<W: fmt::Write>(&self, f: &mut fmt::Formatter<W>) -> fmt::Result {
+        f.debug_struct("Hasher")
+            .field("len", &self.len())
+            .finish_non_exhaustive()
+    }
 }
 
 impl Model for Hasher {
-    ghost use Rattle.b3_hash.specs.Hashers.{State};
+    ghost use Rattle.b3_hash.specs.Hashers.{State, IsWellHeld};
 
     ghost Value = { State };
 
-    ghost use Rattle.std.specs.Prelude.{◌+◌, ◌*◌, ◌^◌, ◌<◌};
-    ghost use Rattle.b3_hash.specs.OpenChunks.{begun_of};
+    ghost view = { λ s. record { chunks = s.chunks; window = s.window } };
 
-    ghost view = { λ s. record {
-      mode = s.mode;
-      count = s.closed.count;
-      stack = s.closed.values.items;
-      begun = begun_of s.last;
-    } };
-
-    ghost invariant = { λ s. 1024 * s.closed.count + (64 * s.last.closed_blocks + s.last.block_len) < 2 ^ 64 };
+    ghost invariant = { λ s. IsWellHeld s.chunks s.window };
 }
 
 impl Hasher {
     ghost use Rattle.b3_core.specs.Tree.{top};
-    ghost use Rattle.b3_hash.specs.Hashers.{IsAllClosed, StandsFor, length_of};
+    ghost use Rattle.b3_hash.specs.ChunkHashers.{IsAllClosed, chunks_len};
+    ghost use Rattle.b3_hash.specs.Hashers.{StandsFor, length_of, mode_of, push_answer};
     ghost use Rattle.b3_hash.specs.OpenChunks.{begun_len};
 
     /// A hasher of an input in this mode, of which no bytes have come.
     pub fn new(mode: Mode) -> Hasher
-        ensures mode { result.mode ≡ mode }
+        ensures mode { mode_of result ≡ mode }
         ensures stands_for { StandsFor result [] }
+        ensures len { length_of result ≡ 0 }
     {
         Hasher {
-            mode,
-            closed: Subtrees::new(),
-            last: OpenChunk::new(&mode),
+            chunks: ChunkHasher::new(mode),
+            window: None,
         }
     }
 
-    /// The number of bytes that have come.
+    /// The number of bytes that have come, those of windows with them.
     pub fn len(&self) -> u64
         ensures value { result ≡ length_of self.now }
         ensures stands_for { (input : List ℕ) → StandsFor self.now input → result ≡ length input }
     {
-        CHUNK_LEN as u64 * self.closed.count + self.last.len() as u64
+        match self.window {
+            Some(window) => self.chunks.len() + subtree_len(window.level),
+            None => self.chunks.len(),
+        }
     }
 
     /// Takes in the next bytes of the input. Refused where the input would then have 2^64 bytes or
@@ -85,7 +123,7 @@ impl Hasher {
         ensures ok { OnOk result ((before : List ℕ) → StandsFor self.old before
             → StandsFor self.new (before ++ input.now)) }
         ensures len { OnOk result (length_of self.new ≡ length_of self.old + length input.now) }
-        ensures mode { self.new.mode ≡ self.old.mode }
+        ensures mode { mode_of self.new ≡ mode_of self.old }
         ensures unchanged { OnErr result (self.new ≡ self.old) }
     {
         if input.len() as u64 > u64::MAX - self.len() {
@@ -95,85 +133,134 @@ impl Hasher {
         Ok(())
     }
 
-    // Takes in the next bytes: first as many as the chunk that is begun has room for.
+    // Takes in the next bytes; a window is closed only where there is one.
     fn append(&mut self, input: &[u8])
         requires { length_of self.old + length input.now < 2 ^ 64 }
-        ensures mode { self.new.mode ≡ self.old.mode }
+        ensures mode { mode_of self.new ≡ mode_of self.old }
         ensures len { length_of self.new ≡ length_of self.old + length input.now }
         ensures stands_for { (before : List ℕ) → StandsFor self.old before
             → StandsFor self.new (before ++ input.now) }
     {
-        let begun = self.last.len();
-        if begun == 0 {
-            self.begin(input);
+        if input.is_empty() {
             return;
         }
-        let (front, rest) = input.split_at(input.len().min(CHUNK_LEN - begun));
-        self.fill(front);
-        if !rest.is_empty() {
-            self.close();
-            self.begin(rest);
+        match self.window {
+            Some(window) => {
+                self.window = None;
+                self.chunks.push_subtree(&window.node, window.level);
+                self.chunks.append_chunks(input);
+            }
+            None => self.chunks.append(input),
         }
     }
 
-    // Takes in bytes of the chunk that is begun.
-    fn fill(&mut self, front: &[u8])
-        requires begun { 0 < begun_len self.old.begun }
-        requires room { begun_len self.old.begun + length front.now ≤ 1024 }
-        requires fits { length_of self.old + length front.now < 2 ^ 64 }
-        ensures mode { self.new.mode ≡ self.old.mode }
-        ensures len { length_of self.new ≡ length_of self.old + length front.now }
-        ensures begun { begun_len self.new.begun ≡ begun_len self.old.begun + length front.now }
-        ensures stands_for { (before : List ℕ) → StandsFor self.old before
-            → StandsFor self.new (before ++ front.now) }
+    /// Takes in the next 2^level chunks of the input, a window, by the node of their subtree: their
+    /// [`top`](b3_core::top), with the number of their first chunk. Refused, in this order, where the
+    /// window is [`Unaligned`](WindowFault::Unaligned) or makes the input
+    /// [`TooLong`](WindowFault::TooLong): the hasher stays as it was, and can go on.
+    pub fn push_window(&mut self, node: Node, level: u32) -> Result<(), WindowFault>
+        ensures answer { result ≡ push_answer level (length_of self.old) }
+        ensures ok { OnOk result ((before window : List ℕ) → StandsFor self.old before
+            → length window ≡ 1024 * 2 ^ level
+            → node ≡ top (mode_of self.old) (length before / 1024) window
+            → StandsFor self.new (before ++ window)) }
+        ensures len { OnOk result (length_of self.new ≡ length_of self.old + 1024 * 2 ^ level) }
+        ensures mode { mode_of self.new ≡ mode_of self.old }
+        ensures unchanged { OnErr result (self.new ≡ self.old) }
     {
-        self.last.push(&self.mode, self.closed.count, front);
+        if level > 53 {
+            return Err(WindowFault::Unaligned);
+        }
+        let size = subtree_len(level);
+        let len = self.len();
+        if len % size != 0 {
+            return Err(WindowFault::Unaligned);
+        }
+        if size > u64::MAX - len {
+            return Err(WindowFault::TooLong);
+        }
+        self.hold(node, level);
+        Ok(())
     }
 
-    // Closes the chunk that is begun, which is full.
-    fn close(&mut self)
-        requires { begun_len self.old.begun ≡ 1024 }
-        ensures mode { self.new.mode ≡ self.old.mode }
-        ensures len { length_of self.new ≡ length_of self.old }
-        ensures empty { begun_len self.new.begun ≡ 0 }
-        ensures closed { (input : List ℕ) → StandsFor self.old input → IsAllClosed self.new input }
+    // Takes in a window that is aligned and fits.
+    fn hold(&mut self, node: Node, level: u32)
+        requires level { level < 54 }
+        requires aligned { length_of self.old % (1024 * 2 ^ level) ≡ 0 }
+        requires fits { length_of self.old + 1024 * 2 ^ level < 2 ^ 64 }
+        ensures stands_for { (before window : List ℕ) → StandsFor self.old before
+            → length window ≡ 1024 * 2 ^ level
+            → node ≡ top (mode_of self.old) (length_of self.old / 1024) window
+            → StandsFor self.new (before ++ window) }
+        ensures len { length_of self.new ≡ length_of self.old + 1024 * 2 ^ level }
+        ensures mode { mode_of self.new ≡ mode_of self.old }
     {
-        let value = self.last.node(&self.mode, self.closed.count).chaining();
-        self.closed.push(&self.mode, value);
-        self.last = OpenChunk::new(&self.mode);
+        self.close_last();
+        self.window = Some(Window { node, level });
     }
 
-    // Takes in bytes where no chunk is begun.
-    fn begin(&mut self, input: &[u8])
-        requires empty { begun_len self.old.begun ≡ 0 }
-        requires fits { length_of self.old + length input.now < 2 ^ 64 }
-        ensures mode { self.new.mode ≡ self.old.mode }
-        ensures len { length_of self.new ≡ length_of self.old + length input.now }
-        ensures stands_for { (before : List ℕ) → IsAllClosed self.old before
-            → (0 < self.old.count → 0 < length input.now) → StandsFor self.new (before ++ input.now) }
+    // Closes what is still open: the window, or the last chunk, which is full.
+    fn close_last(&mut self)
+        requires { length_of self.old % 1024 ≡ 0 }
+        ensures mode { mode_of self.new ≡ mode_of self.old }
+        ensures len { chunks_len self.new.chunks ≡ length_of self.old }
+        ensures none { self.new.window ≡ None }
+        ensures empty { begun_len self.new.chunks.begun ≡ 0 }
+        ensures closed { (input : List ℕ) → StandsFor self.old input → IsAllClosed self.new.chunks input }
     {
-        let rest = self.closed.push_chunks(&self.mode, input);
-        self.last.push(&self.mode, self.closed.count, rest);
+        match self.window {
+            Some(window) => {
+                self.window = None;
+                self.chunks.push_subtree(&window.node, window.level);
+            }
+            None => self.chunks.close_last(),
+        }
     }
 
     /// The output of the input so far, from its first byte on (BLAKE3 (2020), 2.6). The hasher stays as
     /// it is, and can go on.
     pub fn finish(&self) -> Xof
         ensures output { (input : List ℕ) → StandsFor self.now input
-            → result ≡ record { node = top self.now.mode 0 input; place = 0 } }
+            → result ≡ record { node = top (mode_of self.now) 0 input; place = 0 } }
         ensures one_output { (input other : List ℕ) → StandsFor self.now input → StandsFor self.now other
-            → top self.now.mode 0 input ≡ top self.now.mode 0 other }
+            → top (mode_of self.now) 0 input ≡ top (mode_of self.now) 0 other }
     {
         Xof::from_node(self.root())
     }
 
     // The node of the root of the input so far.
     pub(crate) fn root(&self) -> Node
-        ensures value { (input : List ℕ) → StandsFor self.now input → result ≡ top self.now.mode 0 input }
-        ensures one_output { (input other : List ℕ) → StandsFor self.now input → StandsFor self.now other
-            → top self.now.mode 0 input ≡ top self.now.mode 0 other }
+        ensures { (input : List ℕ) → StandsFor self.now input → result ≡ top (mode_of self.now) 0 input }
     {
-        let last = self.last.node(&self.mode, self.closed.count);
-        self.closed.root(&self.mode, last)
+        match self.window {
+            Some(window) => self.chunks.root_over(window.node),
+            None => self.chunks.root(),
+        }
+    }
+
+    /// The output of the input so far and a last window behind it, by the window's node; the hasher stays
+    /// as it is. The window has at most as many chunks as some level, of which the input so far is a whole
+    /// number of windows, and it has no bytes only where the input has none so far.
+    pub fn finish_with(&self, last: Node) -> Xof
+        requires { length_of self.now % 1024 ≡ 0 }
+        ensures { (level : ℕ) (before window : List ℕ) → StandsFor self.now before
+            → level ≤ 54 → length before % (1024 * 2 ^ level) ≡ 0
+            → length window ≤ 1024 * 2 ^ level → (0 < length before → 0 < length window)
+            → last ≡ top (mode_of self.now) (length before / 1024) window
+            → result ≡ record { node = top (mode_of self.now) 0 (before ++ window); place = 0 } }
+    {
+        let mut closed = self.copied();
+        closed.close_last();
+        Xof::from_node(closed.chunks.root_over(last))
+    }
+
+    // The same hasher.
+    fn copied(&self) -> Hasher
+        ensures { result ≡ self.now }
+    {
+        Hasher {
+            chunks: self.chunks.copied(),
+            window: self.window,
+        }
     }
 }

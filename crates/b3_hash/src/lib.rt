@@ -4,9 +4,11 @@
 //! No call takes memory.
 #![tactic(auto)]
 
+mod chunk_hasher;
 mod derivation;
 mod hasher;
 mod hashes;
+mod laws;
 mod open_chunk;
 mod output;
 mod subtrees;
@@ -14,6 +16,7 @@ mod subtrees;
 mod tests;
 
 pub use derivation::derive_mode;
-pub use hasher::{Hasher, TooLong};
+pub use hasher::{Hasher, TooLong, WindowFault};
 pub use hashes::{hash, keyed_hash};
+pub use laws::{output_of_pieces, read_places};
 pub use output::{PastEnd, Xof};

@@ -1,21 +1,12 @@
 // The chunk that an incremental hash has begun (BLAKE3 (2020), 2.4).
 
 ghost use Rattle.std.specs.Prelude.{◌≡◌, ℕ, ◌+◌, ◌*◌, ◌<◌, ◌≤◌, [], ◌++◌, List, length};
-ghost use Rattle.b3_core.specs.Chunks.{block_flags};
 
-use b3_core::{Mode, Node, chunk_node};
-
-const BLOCK_LEN: usize = 64;
-
-const CHUNK_LEN: usize = 1024;
-
-const CHUNK_START: u32 = 1;
-
-const CHUNK_END: u32 = 2;
+use b3_core::{BLOCK_LEN, Mode, Node, block_node, last_block_node};
 
 // A chunk of at most 1,024 bytes so far: the chaining value of its closed blocks, how many these are,
 // and the open block, which is closed only when a further byte comes.
-#[derive(Debug, Drop)]
+#[derive(Clone, Copy)]
 pub(crate) struct OpenChunk {
     h: [u32; 8],
     closed_blocks: usize,
@@ -26,20 +17,8 @@ pub(crate) struct OpenChunk {
     ghost chunk_fits: { 64 * closed_blocks + block_len ≤ 1024 },
 }
 
-// The flags of block `k` of a chunk, which is not the last.
-#[inline]
-fn block_flags(mode: &Mode, k: usize) -> u32
-    ensures { result ≡ block_flags mode.now k }
-{
-    if k == 0 {
-        mode.flag | CHUNK_START
-    } else {
-        mode.flag
-    }
-}
-
 impl OpenChunk {
-    ghost use Rattle.b3_core.specs.Chunks.{block_node, carried, chunk_node};
+    ghost use Rattle.b3_core.specs.Chunks.{chunk_node};
     ghost use Rattle.b3_core.specs.declared.modes.Mode.{Mode};
     ghost use Rattle.b3_hash.specs.OpenChunks.{HasBytes, IsBegun, begun_of};
 
@@ -63,36 +42,20 @@ impl OpenChunk {
         BLOCK_LEN * self.closed_blocks + self.block_len
     }
 
-    // The compression of the open block, without CHUNK_END.
-    fn open_node(&self, mode: &Mode, number: u64) -> Node
-        ensures { (bytes : List ℕ) → HasBytes mode.now number (begun_of self.now) bytes
-            → result ≡ block_node mode.now number bytes self.now.closed_blocks
-            (carried mode.now number bytes self.now.closed_blocks) }
-    {
-        let alone = chunk_node(mode, number, &self.block[..self.block_len]);
-        Node {
-            h: self.h,
-            d: block_flags(mode, self.closed_blocks),
-            ..alone
-        }
-    }
-
     // The node of the chunk as it is.
     pub(crate) fn node(&self, mode: &Mode, number: u64) -> Node
         ensures { (bytes : List ℕ) → IsBegun mode.now number (begun_of self.now) bytes
             → result ≡ chunk_node mode.now number bytes }
     {
-        let last = self.open_node(mode, number);
-        Node {
-            d: last.d | CHUNK_END,
-            ..last
-        }
+        let block = &self.block[..self.block_len];
+        last_block_node(mode, number, self.closed_blocks, &self.h, block)
     }
 
     // Closes the open block if it is full, so that it has room for a further byte.
     fn make_room(&mut self, mode: &Mode, number: u64)
         requires { 64 * self.old.closed_blocks + self.old.block_len < 1024 }
-        ensures len { 64 * self.new.closed_blocks + self.new.block_len ≡ 64 * self.old.closed_blocks + self.old.block_len }
+        ensures len { 64 * self.new.closed_blocks + self.new.block_len
+            ≡ 64 * self.old.closed_blocks + self.old.block_len }
         ensures room { self.new.block_len < 64 }
         ensures bytes { (bytes : List ℕ) → HasBytes mode.now number (begun_of self.old) bytes
             → HasBytes mode.now number (begun_of self.new) bytes }
@@ -100,19 +63,20 @@ impl OpenChunk {
         if self.block_len < BLOCK_LEN {
             return;
         }
-        let next = self.open_node(mode, number).chaining();
-        self.h = next;
+        let node = block_node(mode, number, self.closed_blocks, &self.h, &self.block);
+        self.h = node.chaining();
         self.closed_blocks += 1;
         self.block_len = 0;
     }
 
     // Appends bytes to the open block, which has room for them.
-    fn fill_block(&mut self, piece: &[u8])
+    fn extend_block(&mut self, piece: &[u8])
         requires block { self.old.block_len + length piece.now ≤ 64 }
         requires chunk { 64 * self.old.closed_blocks + self.old.block_len + length piece.now ≤ 1024 }
         ensures blocks { self.new.closed_blocks ≡ self.old.closed_blocks }
         ensures len { self.new.block_len ≡ self.old.block_len + length piece.now }
-        ensures bytes { (mode : Mode) (number : ℕ) (bytes : List ℕ) → HasBytes mode number (begun_of self.old) bytes
+        ensures bytes { (mode : Mode) (number : ℕ) (bytes : List ℕ)
+            → HasBytes mode number (begun_of self.old) bytes
             → HasBytes mode number (begun_of self.new) (bytes ++ piece.now) }
     {
         let end = self.block_len + piece.len();
@@ -122,7 +86,7 @@ impl OpenChunk {
 
     // Appends bytes to the chunk. A full block is closed only when a further byte comes, so that it can
     // be the last.
-    pub(crate) fn push(&mut self, mode: &Mode, number: u64, bytes: &[u8])
+    pub(crate) fn append(&mut self, mode: &Mode, number: u64, bytes: &[u8])
         requires { 64 * self.old.closed_blocks + self.old.block_len + length bytes.now ≤ 1024 }
         ensures len { 64 * self.new.closed_blocks + self.new.block_len
             ≡ 64 * self.old.closed_blocks + self.old.block_len + length bytes.now }
@@ -130,10 +94,10 @@ impl OpenChunk {
             → IsBegun mode.now number (begun_of self.new) (before ++ bytes.now) }
     {
         let mut at = 0;
-        'pieces: while at < bytes.len() {
+        while at < bytes.len() {
             self.make_room(mode, number);
             let end = bytes.len().min(at + (BLOCK_LEN - self.block_len));
-            self.fill_block(&bytes[at..end]);
+            self.extend_block(&bytes[at..end]);
             at = end;
         }
     }

@@ -1,0 +1,155 @@
+// Windows: pushed, followed by bytes, and last.
+
+ghost use Rattle.std.specs.Prelude.{◌≡◌, ◌≤◌, length};
+
+use super::{DIGEST_OF_0, DIGEST_OF_1024, DIGEST_OF_1025, assert_digest, pattern};
+use crate::{Hasher, TooLong, WindowFault, Xof};
+use b3_core::{Mode, top};
+use std::process::Abort;
+use std::test::Fail;
+
+// Pushes the bytes, which are 2^level chunks, as a window.
+fn push(rt: &impl Abort, hasher: &mut Hasher, bytes: &[u8], level: u32)
+    requires { length bytes.now ≤ 65536 }
+{
+    let first = hasher.len() / 1024;
+    assert!(rt; first < 1 << 30);
+    let node = top(&Mode::hash(), first, bytes);
+    assert_eq!(rt; hasher.push_window(node, level), Ok(()));
+}
+
+#[test]
+fn a_window_of_one_chunk_stays_open(rt: HostRuntime) -> Result<(), Fail> {
+    let bytes = pattern(rt.alloc(), 1025)?;
+    let (chunk, byte) = bytes.split_at(1024);
+    let mut hasher = Hasher::new(Mode::hash());
+    push(&rt, &mut hasher, chunk, 0);
+    assert_digest(&rt, &hasher, &DIGEST_OF_1024, "the window");
+    assert_eq!(rt; hasher.update(&[]), Ok(()));
+    assert_digest(&rt, &hasher, &DIGEST_OF_1024, "and then no bytes");
+    assert_eq!(rt; hasher.update(byte), Ok(()));
+    assert_digest(&rt, &hasher, &DIGEST_OF_1025, "and then 1");
+    Ok(())
+}
+
+#[test]
+fn windows_up_to_the_greatest_length(rt: HostRuntime) {
+    let node = top(&Mode::hash(), 0, &[]);
+    let mut hasher = Hasher::new(Mode::hash());
+    assert_eq!(rt; hasher.push_window(node, 54), Err(WindowFault::Unaligned));
+    for level in (0..54u32).rev() {
+        assert_eq!(rt; hasher.push_window(node, level), Ok(()), "level {level}");
+    }
+    assert_eq!(rt; hasher.len(), u64::MAX - 1023);
+    assert_eq!(rt; hasher.push_window(node, 0), Err(WindowFault::TooLong));
+    assert_eq!(rt; hasher.update(&[7; 1023]), Ok(()));
+    assert_eq!(rt; hasher.len(), u64::MAX);
+    assert_eq!(rt; hasher.update(&[7]), Err(TooLong));
+    assert_eq!(rt; hasher.len(), u64::MAX);
+}
+
+#[test]
+fn refused_windows(rt: HostRuntime) {
+    let node = top(&Mode::hash(), 0, &[]);
+    let mut hasher = Hasher::new(Mode::hash());
+    assert_eq!(rt; hasher.push_window(node, 53), Ok(()));
+    assert_eq!(rt; hasher.push_window(node, 53), Err(WindowFault::TooLong));
+    assert_eq!(rt; hasher.len(), 1 << 63);
+    let mut hasher = Hasher::new(Mode::hash());
+    assert_eq!(rt; hasher.update(&[7]), Ok(()));
+    assert_eq!(rt; hasher.push_window(node, 14), Err(WindowFault::Unaligned));
+    assert_eq!(rt; hasher.push_window(node, 0), Err(WindowFault::Unaligned));
+    assert_eq!(rt; hasher.len(), 1);
+}
+
+// Takes in `skip` bytes by an update, then the next 2^level chunks as a window.
+fn update_then_push(rt: &impl Abort, hasher: &mut Hasher, all: &[u8], skip: usize, level: u32)
+    requires len { length all.now ≤ 65536 }
+    requires level { level ≤ 3 }
+{
+    let come = (hasher.len() as usize).min(all.len());
+    let (_, rest) = all.split_at(come);
+    let (bytes, rest) = rest.split_at(skip.min(rest.len()));
+    assert_eq!(rt; hasher.update(bytes), Ok(()));
+    let (window, _) = rest.split_at((1024usize << level).min(rest.len()));
+    push(rt, hasher, window, level);
+}
+
+fn assert_root(rt: &impl Abort, hasher: &Hasher, all: &[u8])
+    requires { length all.now ≤ 65536 }
+{
+    let come = (hasher.len() as usize).min(all.len());
+    let (bytes, _) = all.split_at(come);
+    assert_eq!(rt; hasher.root(), top(&Mode::hash(), 0, bytes), "{come} bytes");
+}
+
+#[test]
+fn windows_among_bytes(rt: HostRuntime) -> Result<(), Fail> {
+    let all = pattern(rt.alloc(), 30_000)?;
+    let mut hasher = Hasher::new(Mode::hash());
+    for (skip, level) in [(0usize, 2u32), (0, 1), (2048, 3), (0, 0), (3072, 2), (0, 0)] {
+        update_then_push(&rt, &mut hasher, &all, skip, level.min(3));
+        assert_root(&rt, &hasher, &all);
+    }
+    let (_, rest) = all.split_at((hasher.len() as usize).min(30_000));
+    assert_eq!(rt; hasher.update(rest), Ok(()));
+    assert_eq!(rt; hasher.len(), 30_000);
+    assert_root(&rt, &hasher, &all);
+    Ok(())
+}
+
+// The output of the hasher's 12,288 bytes and a last window of `last` bytes.
+fn assert_finish_with(rt: &impl Abort, hasher: &Hasher, all: &[u8], last: usize)
+    requires len { length all.now ≡ 16384 }
+    requires last { last ≤ 4096 }
+{
+    let (_, rest) = all.split_at(12_288);
+    let (window, _) = rest.split_at(last);
+    let (whole, _) = all.split_at(12_288 + last);
+    let len = hasher.len();
+    assert!(rt; len % 1024 == 0);
+    let output = hasher.finish_with(top(&Mode::hash(), 12, window));
+    assert_digest_of(rt, output, &crate::hash(whole), last);
+}
+
+fn assert_digest_of(rt: &impl Abort, mut output: Xof, want: &[u8; 32], last: usize) {
+    let mut digest = [0; 32];
+    assert_eq!(rt; output.fill(&mut digest), Ok(()));
+    assert_eq!(rt; digest, *want, "a last window of {last} bytes");
+}
+
+#[test]
+fn a_last_window(rt: HostRuntime) -> Result<(), Fail> {
+    let all = pattern(rt.alloc(), 16_384)?;
+    let (before, _) = all.split_at(12_288);
+    let mut pushed = Hasher::new(Mode::hash());
+    for window in before.chunks(4096) {
+        push(&rt, &mut pushed, window, 2);
+    }
+    let mut updated = Hasher::new(Mode::hash());
+    assert_eq!(rt; updated.update(before), Ok(()));
+    for last in [1usize, 63, 64, 65, 1023, 1024, 1025, 2048, 3000, 4095, 4096] {
+        assert_finish_with(&rt, &pushed, &all, last.min(4096));
+        assert_finish_with(&rt, &updated, &all, last.min(4096));
+    }
+    assert_eq!(rt; pushed.root(), updated.root(), "both can go on");
+    Ok(())
+}
+
+#[test]
+fn a_last_window_of_no_bytes(rt: HostRuntime) {
+    let hasher = Hasher::new(Mode::hash());
+    let len = hasher.len();
+    assert!(rt; len % 1024 == 0);
+    let output = hasher.finish_with(top(&Mode::hash(), 0, &[]));
+    assert_digest_of(&rt, output, &DIGEST_OF_0, 0);
+}
+
+#[test]
+fn texts_of_the_refusals(rt: HostRuntime) -> Result<(), Fail> {
+    let text = WindowFault::Unaligned.to_string(rt.alloc())?;
+    assert_eq!(rt; text.as_str(), "the window is at no multiple of its length");
+    let text = WindowFault::TooLong.to_string(rt.alloc())?;
+    assert_eq!(rt; text.as_str(), "the input has 2^64 bytes or more");
+    Ok(())
+}
