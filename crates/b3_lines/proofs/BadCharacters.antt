@@ -19,11 +19,13 @@ use Rattle.b3_lines.proofs.Escapes.{Spells-from_lawful}
 -- a search for a byte finds one where the list has one
 pub is_some-IsFirstByte : (p : ℕ → Bool) (s : List ℕ) (r : Option ℕ) → IsFirstByte p s r → is_some r ≡ list_any p s
 is_some-IsFirstByte p s None none =
-    sym (list_any_none p s (λ k d within. rw (get_or_default s k d 0 within) (false_from_ne_true _ (none k (omega arith) within))))
+    sym (list_any_none p s
+    (λ k d within. rw (get_or_default s k d 0 within) (false_from_ne_true _ (none k (omega arith) within))))
 is_some-IsFirstByte p s (Some k) found = sym (list_any_at p s k 0 found.0.high found.1)
 
 -- the test at a byte and what follows it
-holds_replacement-cons : (b : ℕ) (s : List ℕ) → holds_replacement (b ∷ s) ≡ (starts_with nat_eq (b ∷ s) replacement || holds_replacement s)
+holds_replacement-cons : (b : ℕ) (s : List ℕ)
+    → holds_replacement (b ∷ s) ≡ (starts_with nat_eq (b ∷ s) replacement || holds_replacement s)
 unfolding holds_replacement
 holds_replacement-cons b s = refl
 
@@ -36,7 +38,8 @@ holds_replacement-nil = refl
 starts-from_occurs : (s : List ℕ) → OccursAt s replacement 0 → starts_with nat_eq s replacement ≡ true
 starts-from_occurs s occurs =
     (starts_is Decides-eqb s replacement (starts_with nat_eq s replacement) refl).1 (drop 3 s)
-    (front_from_reads 0 s replacement occurs.fits (λ j within. ap (slice_index s) (sym (zero-add j)) ∙ occurs.reads j within))
+    (front_from_reads 0 s replacement occurs.fits
+    (λ j within. ap (slice_index s) (sym (zero-add j)) ∙ occurs.reads j within))
 
 -- and back
 occurs-from_starts : (s : List ℕ) → starts_with nat_eq s replacement ≡ true → OccursAt s replacement 0
@@ -49,11 +52,13 @@ occurs-from_starts s starts =
 
 -- one place further
 occurs-cons : (b : ℕ) (s : List ℕ) (k : ℕ) → OccursAt s replacement k → OccursAt (b ∷ s) replacement (suc k)
-occurs-cons b s k occurs = record { fits = omega (arith, occurs.fits); reads = λ j within. rw (suc-add k j) (occurs.reads j within) }
+occurs-cons b s k occurs =
+    record { fits = omega (arith, occurs.fits); reads = λ j within. rw (suc-add k j) (occurs.reads j within) }
 
 -- and one place back
 occurs-tail : (b : ℕ) (s : List ℕ) (k : ℕ) → OccursAt (b ∷ s) replacement (suc k) → OccursAt s replacement k
-occurs-tail b s k occurs = record { fits = omega (arith, occurs.fits); reads = λ j within. rw (suc-add k j) at (occurs.reads j within) }
+occurs-tail b s k occurs =
+    record { fits = omega (arith, occurs.fits); reads = λ j within. rw (suc-add k j) at (occurs.reads j within) }
 
 -- where U+FFFD stands somewhere, the text holds it
 holds-from_occurs : (s : List ℕ) (k : ℕ) → OccursAt s replacement k → holds_replacement s ≡ true
@@ -61,13 +66,15 @@ holds-from_occurs [] k occurs = absurd (omega (arith, occurs.fits))
 holds-from_occurs (b ∷ s) zero occurs =
     holds_replacement-cons b s ∙ or_left _ (holds_replacement s) (starts-from_occurs (b ∷ s) occurs)
 holds-from_occurs (b ∷ s) (suc k) occurs =
-    holds_replacement-cons b s ∙ or_right (starts_with nat_eq (b ∷ s) replacement) _ (holds-from_occurs s k (occurs-tail b s k occurs))
+    holds_replacement-cons b s
+    ∙ or_right (starts_with nat_eq (b ∷ s) replacement) _ (holds-from_occurs s k (occurs-tail b s k occurs))
 
 -- where the text holds U+FFFD, it stands somewhere
 occurs-from_holds : (s : List ℕ) → holds_replacement s ≡ true → (k : ℕ) × OccursAt s replacement k
 occurs-from_holds [] holds = cc (sym holds_replacement-nil ∙ holds)
 occurs-from_holds (b ∷ s) holds =
-    elim (or_cases (starts_with nat_eq (b ∷ s) replacement) (holds_replacement s) (sym (holds_replacement-cons b s) ∙ holds)) [
+    elim (or_cases (starts_with nat_eq (b ∷ s) replacement) (holds_replacement s)
+    (sym (holds_replacement-cons b s) ∙ holds)) [
       | inl here ↦ (0, occurs-from_starts (b ∷ s) here)
       | inr later ↦
           let found = occurs-from_holds s later in
@@ -88,14 +95,17 @@ unfolding holds_bad_character
 holds_bad_character-first s nul = or_left _ (holds_replacement s) nul
 
 -- without NUL the second search decides
-pub holds_bad_character-second : (s : List ℕ) → list_any (λ b. b == 0) s ≡ false → holds_bad_character s ≡ holds_replacement s
+pub holds_bad_character-second : (s : List ℕ) → list_any (λ b. b == 0) s ≡ false
+    → holds_bad_character s ≡ holds_replacement s
 unfolding holds_bad_character
 holds_bad_character-second s no_nul = ap (λ b. b || holds_replacement s) no_nul
 
 -- ---- in an escaped name
 
 -- whether the last byte of U+FFFD, and its last two, stand in front
-ends_one : (pieces : List Piece) → pointwise nat_eq (0xBD ∷ []) (take 1 (flat_map spelling pieces)) ≡ pointwise nat_eq (0xBD ∷ []) (take 1 (map meaning pieces))
+ends_one : (pieces : List Piece)
+    → pointwise nat_eq (0xBD ∷ []) (take 1 (flat_map spelling pieces))
+    ≡ pointwise nat_eq (0xBD ∷ []) (take 1 (map meaning pieces))
 ends_one [] = refl
 ends_one (backslash ∷ pieces) = refl
 ends_one (line_feed ∷ pieces) = refl
@@ -103,7 +113,9 @@ ends_one (carriage_return ∷ pieces) = refl
 ends_one (itself b other ∷ pieces) = refl
 
 -- the last two bytes
-ends_two : (pieces : List Piece) → pointwise nat_eq (0xBF ∷ 0xBD ∷ []) (take 2 (flat_map spelling pieces)) ≡ pointwise nat_eq (0xBF ∷ 0xBD ∷ []) (take 2 (map meaning pieces))
+ends_two : (pieces : List Piece)
+    → pointwise nat_eq (0xBF ∷ 0xBD ∷ []) (take 2 (flat_map spelling pieces))
+    ≡ pointwise nat_eq (0xBF ∷ 0xBD ∷ []) (take 2 (map meaning pieces))
 ends_two [] = refl
 ends_two (backslash ∷ pieces) = refl
 ends_two (line_feed ∷ pieces) = refl
@@ -111,7 +123,8 @@ ends_two (carriage_return ∷ pieces) = refl
 ends_two (itself b other ∷ pieces) = ap (λ t. nat_eq 0xBF b && t) (ends_one pieces)
 
 -- pieces hold U+FFFD where what they stand for does
-holds_replacement-pieces : (pieces : List Piece) → holds_replacement (flat_map spelling pieces) ≡ holds_replacement (map meaning pieces)
+holds_replacement-pieces : (pieces : List Piece)
+    → holds_replacement (flat_map spelling pieces) ≡ holds_replacement (map meaning pieces)
 unfolding holds_replacement
 holds_replacement-pieces [] = refl
 holds_replacement-pieces (backslash ∷ pieces) = holds_replacement-pieces pieces
@@ -119,10 +132,12 @@ holds_replacement-pieces (line_feed ∷ pieces) = holds_replacement-pieces piece
 holds_replacement-pieces (carriage_return ∷ pieces) = holds_replacement-pieces pieces
 holds_replacement-pieces (itself b other ∷ pieces) =
     ap (λ t. (nat_eq 0xEF b && t) || holds_replacement (flat_map spelling pieces)) (ends_two pieces)
-    ∙ ap (λ t. (nat_eq 0xEF b && pointwise nat_eq (0xBF ∷ 0xBD ∷ []) (take 2 (map meaning pieces))) || t) (holds_replacement-pieces pieces)
+    ∙ ap (λ t. (nat_eq 0xEF b && pointwise nat_eq (0xBF ∷ 0xBD ∷ []) (take 2 (map meaning pieces))) || t)
+    (holds_replacement-pieces pieces)
 
 -- pieces hold NUL where what they stand for does
-holds_nul-pieces : (pieces : List Piece) → list_any (λ b. b == 0) (flat_map spelling pieces) ≡ list_any (λ b. b == 0) (map meaning pieces)
+holds_nul-pieces : (pieces : List Piece)
+    → list_any (λ b. b == 0) (flat_map spelling pieces) ≡ list_any (λ b. b == 0) (map meaning pieces)
 holds_nul-pieces [] = refl
 holds_nul-pieces (backslash ∷ pieces) = holds_nul-pieces pieces
 holds_nul-pieces (line_feed ∷ pieces) = holds_nul-pieces pieces
@@ -130,14 +145,16 @@ holds_nul-pieces (carriage_return ∷ pieces) = holds_nul-pieces pieces
 holds_nul-pieces (itself b other ∷ pieces) = ap (λ t. (b == 0) || t) (holds_nul-pieces pieces)
 
 -- what pieces spell holds a bad character where they stand for one
-holds_bad_character-pieces : (pieces : List Piece) → holds_bad_character (flat_map spelling pieces) ≡ holds_bad_character (map meaning pieces)
+holds_bad_character-pieces : (pieces : List Piece)
+    → holds_bad_character (flat_map spelling pieces) ≡ holds_bad_character (map meaning pieces)
 unfolding holds_bad_character
 holds_bad_character-pieces pieces =
     ap (λ t. t || holds_replacement (flat_map spelling pieces)) (holds_nul-pieces pieces)
     ∙ ap (λ t. list_any (λ b. b == 0) (map meaning pieces) || t) (holds_replacement-pieces pieces)
 
 -- a text holds a bad character where the name that it spells does
-pub holds_bad_character-Spells : (text name : List ℕ) → Spells text name → holds_bad_character text ≡ holds_bad_character name
+pub holds_bad_character-Spells : (text name : List ℕ) → Spells text name
+    → holds_bad_character text ≡ holds_bad_character name
 holds_bad_character-Spells text name spells =
     ap holds_bad_character spells.1 ∙ holds_bad_character-pieces spells.0 ∙ sym (ap holds_bad_character spells.2)
 
@@ -150,4 +167,5 @@ holds_bad_character-nil = refl
 pub holds_bad_character-name_of : (marked : Bool) (spelled : List ℕ) → (marked && has_bad_escape spelled) ≡ false
     → holds_bad_character (name_of marked spelled) ≡ holds_bad_character spelled
 holds_bad_character-name_of false spelled lawful = refl
-holds_bad_character-name_of true spelled lawful = sym (holds_bad_character-Spells spelled (unescaped spelled) (Spells-from_lawful spelled lawful))
+holds_bad_character-name_of true spelled lawful =
+    sym (holds_bad_character-Spells spelled (unescaped spelled) (Spells-from_lawful spelled lawful))

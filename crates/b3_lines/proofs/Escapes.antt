@@ -1,20 +1,13 @@
 -- Names escaped, and escapes taken back.
-use Rattle.std.proofs.Common.{◌≡◌, ◌≢◌, ℕ, zero, suc, ◌+◌, ◌<◌, ◌≤◌, Bool, true, false, not, ◌||◌, ◌==◌, List, [], ◌∷◌, ◌++◌, map, length, take, drop, slice_index, refl, sym, ap, ◌∙◌, arith, inl, inr, append_assoc, append-nil, take_all, length-append}
+use Rattle.std.proofs.Common.{◌≡◌, ◌≢◌, ℕ, zero, suc, ◌+◌, ◌<◌, ◌≤◌, true, false, not, ◌||◌, ◌==◌, List, [], ◌∷◌, ◌++◌, map, length, take, drop, slice_index, refl, sym, ap, ◌∙◌, arith, inl, inr, append_assoc, append-nil, take_all, length-append}
 use Rattle.std.proofs.lemmas.List.{drop_all, drop_more, length-drop, length-take-le}
 use Rattle.std.specs.List.{flat_map}
 use Rattle.std.specs.Prelude.{if◌then◌else◌}
-use Rattle.std.proofs.lemmas.Bool.{cases_eq, cond-true, cond-false, false_from_ne_true, ne_eqb, eq-eqb, eqb-true, eqb-false, or_parts, or_cases, not-false, cond_both}
+use Rattle.std.proofs.lemmas.Bool.{cases_eq, cond-true, cond-false, ne_eqb, eq-eqb, eqb-true, eqb-false, or_parts, or_cases, not-false, cond_both}
 use Rattle.std.proofs.lemmas.List.Concat.{flat_map-append}
 use Rattle.memchr.specs.Find.{Nowhere, Passes, is_byte}
+use Rattle.b3_lines.proofs.Searches.{Nowhere-head, Nowhere-tail}
 use Rattle.b3_lines.specs.Names.{Piece, Spells, backslash, carriage_return, ends_escape, escape, escape_meaning, escaped, has_bad_escape, is_escaped, itself, line_feed, meaning, spelling, unescaped}
-
--- a front in which no byte passes a test, one byte shorter
-Nowhere-tail : (p : ℕ → Bool) (b : ℕ) (s : List ℕ) (k : ℕ) → Nowhere (Passes p (b ∷ s)) 0 (suc k) → Nowhere (Passes p s) 0 k
-Nowhere-tail p b s k none j low high passes = none (suc j) (omega arith) (omega arith) passes
-
--- and its first byte
-Nowhere-head : (p : ℕ → Bool) (b : ℕ) (s : List ℕ) (k : ℕ) → Nowhere (Passes p (b ∷ s)) 0 (suc k) → p b ≡ false
-Nowhere-head p b s k none = false_from_ne_true (p b) (none 0 (omega arith) (omega arith))
 
 -- ---- escaped
 
@@ -87,7 +80,8 @@ escaped-none s none =
     let skip = escaped-skip s (length s) (omega arith) none in
     let front = take_all (length s) s (omega arith) in
     let rest = drop_all (length s) s (omega arith) in
-    skip ∙ ap (λ t. t ++ escaped (drop (length s) s)) front ∙ ap (λ t. s ++ escaped t) rest ∙ ap (λ t. s ++ t) escaped-nil ∙ append-nil s
+    skip ∙ ap (λ t. t ++ escaped (drop (length s) s)) front ∙ ap (λ t. s ++ escaped t) rest
+    ∙ ap (λ t. s ++ t) escaped-nil ∙ append-nil s
 
 -- ---- taken back
 
@@ -104,7 +98,8 @@ unescaped-itself b [] other = refl
 unescaped-itself b (c ∷ s) other = cond-false (b == 92) _ _ (ne_eqb b 92 other)
 
 -- a `\` and the byte behind it
-pub has_bad_escape-backslash : (c : ℕ) (s : List ℕ) → has_bad_escape (92 ∷ c ∷ s) ≡ (not (ends_escape c) || has_bad_escape s)
+pub has_bad_escape-backslash : (c : ℕ) (s : List ℕ)
+    → has_bad_escape (92 ∷ c ∷ s) ≡ (not (ends_escape c) || has_bad_escape s)
 unfolding has_bad_escape
 has_bad_escape-backslash c s = refl
 
@@ -160,25 +155,31 @@ backslash_at s k within is =
     ∙ ap (λ n. 92 ∷ slice_index s (k + 1) ∷ drop n s) sum
 
 -- a front without `\`, and a `\` with a byte behind it
-pub has_bad_escape-first : (s : List ℕ) (k : ℕ) → k + 1 < length s → slice_index s k ≡ 92 → Nowhere (Passes (is_byte 92) s) 0 k
+pub has_bad_escape-first : (s : List ℕ) (k : ℕ) → k + 1 < length s → slice_index s k ≡ 92
+    → Nowhere (Passes (is_byte 92) s) 0 k
     → has_bad_escape s ≡ (not (ends_escape (slice_index s (k + 1))) || has_bad_escape (drop (k + 2) s))
 has_bad_escape-first s k within is none =
     has_bad_escape-skip s k (omega arith) none ∙ ap has_bad_escape (backslash_at s k within is)
     ∙ has_bad_escape-backslash (slice_index s (k + 1)) (drop (k + 2) s)
 
 -- what they stand for
-pub unescaped-first : (s : List ℕ) (k : ℕ) → k + 1 < length s → slice_index s k ≡ 92 → Nowhere (Passes (is_byte 92) s) 0 k
+pub unescaped-first : (s : List ℕ) (k : ℕ) → k + 1 < length s → slice_index s k ≡ 92
+    → Nowhere (Passes (is_byte 92) s) 0 k
     → unescaped s ≡ take k s ++ (escape_meaning (slice_index s (k + 1)) ∷ unescaped (drop (k + 2) s))
 unescaped-first s k within is none =
     unescaped-skip s k (omega arith) none
-    ∙ ap (λ t. take k s ++ t) (ap unescaped (backslash_at s k within is) ∙ unescaped-backslash (slice_index s (k + 1)) (drop (k + 2) s))
+    ∙ ap (λ t. take k s ++ t)
+    (ap unescaped (backslash_at s k within is) ∙ unescaped-backslash (slice_index s (k + 1)) (drop (k + 2) s))
 
 -- a `\` at the end
-pub has_bad_escape-at_end : (s : List ℕ) (k : ℕ) → k + 1 ≡ length s → slice_index s k ≡ 92 → Nowhere (Passes (is_byte 92) s) 0 k
+pub has_bad_escape-at_end : (s : List ℕ) (k : ℕ) → k + 1 ≡ length s → slice_index s k ≡ 92
+    → Nowhere (Passes (is_byte 92) s) 0 k
     → has_bad_escape s ≡ true
 has_bad_escape-at_end s k last is none =
     has_bad_escape-skip s k (omega arith) none
-    ∙ ap has_bad_escape (drop_more s k 0 (omega arith) ∙ ap (λ b. b ∷ drop (k + 1) s) is ∙ ap (λ t. 92 ∷ t) (drop_all (k + 1) s (omega arith)))
+    ∙ ap has_bad_escape
+    (drop_more s k 0 (omega arith) ∙ ap (λ b. b ∷ drop (k + 1) s) is
+    ∙ ap (λ t. 92 ∷ t) (drop_all (k + 1) s (omega arith)))
     ∙ has_bad_escape-last
 
 -- no `\` at all
@@ -195,7 +196,8 @@ unescaped-none s none =
     ∙ ap (λ t. s ++ unescaped t) (drop_all (length s) s (omega arith)) ∙ ap (λ t. s ++ t) unescaped-nil ∙ append-nil s
 
 -- the length of a front and one character
-pub length-unescaped-first : (s : List ℕ) (k : ℕ) → k + 1 < length s → slice_index s k ≡ 92 → Nowhere (Passes (is_byte 92) s) 0 k
+pub length-unescaped-first : (s : List ℕ) (k : ℕ) → k + 1 < length s → slice_index s k ≡ 92
+    → Nowhere (Passes (is_byte 92) s) 0 k
     → length (unescaped s) ≡ k + 1 + length (unescaped (drop (k + 2) s))
 length-unescaped-first s k within is none =
     let first = ap length (unescaped-first s k within is none) in
@@ -206,7 +208,8 @@ length-unescaped-first s k within is none =
 -- one turn of a loop that counts the escapes
 pub counts-step : (s after : List ℕ) (k : ℕ) → after ≡ drop (k + 2) s → k + 1 < length s → slice_index s k ≡ 92
     → Nowhere (Passes (is_byte 92) s) 0 k → ends_escape (slice_index s (k + 1)) ≡ true
-    → (has_bad_escape s ≡ has_bad_escape after) × (length (unescaped s) ≡ k + 1 + length (unescaped after)) × (length s ≡ k + 2 + length after)
+    → (has_bad_escape s ≡ has_bad_escape after) × (length (unescaped s) ≡ k + 1 + length (unescaped after))
+    × (length s ≡ k + 2 + length after)
 counts-step s after k rest within is none ends =
     let first = has_bad_escape-first s k within is none in
     let shorter = length-unescaped-first s k within is none in
@@ -226,7 +229,8 @@ lawful-first s k here is none lawful =
       | inl last ↦ cc (sym lawful ∙ has_bad_escape-at_end s k last is none)
       | inr more ↦
           let within : k + 1 < length s = omega arith in
-          let parts = or_parts (not (ends_escape (slice_index s (k + 1)))) _ (sym (has_bad_escape-first s k within is none) ∙ lawful) in
+          let parts = or_parts (not (ends_escape (slice_index s (k + 1)))) _
+          (sym (has_bad_escape-first s k within is none) ∙ lawful) in
           (within, not-false _ parts.0, parts.1)
     ]
 
@@ -294,8 +298,10 @@ Spells-unescaped text name spells =
     )
 
 -- one more piece in front
-pub Spells-cons : (piece : Piece) (text name : List ℕ) → Spells text name → Spells (spelling piece ++ text) (meaning piece ∷ name)
-Spells-cons piece text name spells = (piece ∷ spells.0, ap (λ t. spelling piece ++ t) spells.1, ap (λ t. meaning piece ∷ t) spells.2)
+pub Spells-cons : (piece : Piece) (text name : List ℕ) → Spells text name
+    → Spells (spelling piece ++ text) (meaning piece ∷ name)
+Spells-cons piece text name spells =
+    (piece ∷ spells.0, ap (λ t. spelling piece ++ t) spells.1, ap (λ t. meaning piece ∷ t) spells.2)
 
 -- the last of the three bytes
 ends_last : (c : ℕ) → ends_escape c ≡ true → c ≢ 92 → c ≢ 110 → c ≡ 114
@@ -310,7 +316,8 @@ ends_last c ends not_backslash not_feed =
     ]
 
 -- the piece of a `\` and a byte that may follow it
-escape_piece : (c : ℕ) → ends_escape c ≡ true → (piece : Piece) × (spelling piece ≡ 92 ∷ c ∷ []) × (meaning piece ≡ escape_meaning c)
+escape_piece : (c : ℕ) → ends_escape c ≡ true
+    → (piece : Piece) × (spelling piece ≡ 92 ∷ c ∷ []) × (meaning piece ≡ escape_meaning c)
 escape_piece c ends =
     elim (cases_eq c 92) [
       | inl is ↦ rw is (backslash, refl, refl)
@@ -329,12 +336,14 @@ Spells-from_lawful [] lawful = ([], refl, unescaped-nil)
 Spells-from_lawful (b ∷ []) lawful =
     elim (cases_eq b 92) [
       | inl is ↦ cc (sym lawful ∙ ap (λ x. has_bad_escape (x ∷ [])) is ∙ has_bad_escape-last)
-      | inr other ↦ rw (unescaped-itself b [] other) (Spells-cons (itself b other) [] (unescaped []) (Spells-from_lawful [] has_bad_escape-nil))
+      | inr other ↦ rw (unescaped-itself b [] other)
+          (Spells-cons (itself b other) [] (unescaped []) (Spells-from_lawful [] has_bad_escape-nil))
     ]
 Spells-from_lawful (b ∷ c ∷ text) lawful =
     elim (cases_eq b 92) [
       | inl is ↦
-          let parts = or_parts (not (ends_escape c)) (has_bad_escape text) (sym (has_bad_escape-backslash c text) ∙ ap (λ x. has_bad_escape (x ∷ c ∷ text)) (sym is) ∙ lawful) in
+          let parts = or_parts (not (ends_escape c)) (has_bad_escape text)
+          (sym (has_bad_escape-backslash c text) ∙ ap (λ x. has_bad_escape (x ∷ c ∷ text)) (sym is) ∙ lawful) in
           let piece = escape_piece c (not-false _ parts.0) in
           let whole = Spells-cons piece.0 text (unescaped text) (Spells-from_lawful text parts.1) in
           rw (is, unescaped-backslash c text) (rw (piece.1, piece.2) at whole)

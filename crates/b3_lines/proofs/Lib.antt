@@ -1,10 +1,20 @@
-pub mod BadCharacters
-pub mod Digits
-pub mod Escapes
+-- searches of a text that found nothing
+pub mod Searches
+-- names: which are marked, how they are escaped and taken back, and NUL and U+FFFD in them
 pub mod Marks
-pub mod Outcomes
-pub mod ReadBack
-pub mod Refusals
-pub mod Results
-pub mod Texts
+pub mod Escapes
+pub mod BadCharacters
+-- a line as it is written: part by part, and that it is text
 pub mod Written
+pub mod Texts
+-- a line as it is read: its digits and spaces, the first refusal of it, and what it says where there is none
+pub mod DigitsAndSpaces
+pub mod Refusals
+pub mod Outcomes
+-- a line that was written reads back
+pub mod ReadBack
+-- what the answer of a call says where it is `Ok`
+pub mod Results
+-- the lines of a text, and their places
+pub mod LinesOf
+pub mod PlacesFrom

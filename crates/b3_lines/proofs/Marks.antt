@@ -25,7 +25,8 @@ not-not true = refl
 not-not false = refl
 
 -- a name is marked where the count of its escaped characters is not 0
-pub is_marked-count : (name : List ℕ) (count : ℕ) → count ≡ length (places is_escaped name) → not (count == 0) ≡ is_marked name
+pub is_marked-count : (name : List ℕ) (count : ℕ) → count ≡ length (places is_escaped name)
+    → not (count == 0) ≡ is_marked name
 is_marked-count name count counted =
     ap (λ n. not (n == 0)) (counted ∙ length-places is_escaped name)
     ∙ ap not (sum_by-zero (λ b. cond (is_escaped b) 1 0) name ∙ none-is_marked name) ∙ not-not (is_marked name)
@@ -33,12 +34,14 @@ is_marked-count name count counted =
 -- a name that is not marked stands as it is
 pub escaped-unmarked : (name : List ℕ) → is_marked name ≡ false → escaped name ≡ name
 escaped-unmarked name unmarked =
-    escaped-none name (λ k low within passes. both_ways (is_marked name) unmarked (list_any_at is_escaped name k 0 within passes))
+    escaped-none name
+    (λ k low within passes. both_ways (is_marked name) unmarked (list_any_at is_escaped name k 0 within passes))
 
 -- the shown form of a name without mark is the name
 pub shown-unmarked : (name : List ℕ) → is_marked name ≡ false → shown name ≡ name
 unfolding shown
-shown-unmarked name unmarked = ap (λ m. m ++ escaped name) (cond-false (is_marked name) _ _ unmarked) ∙ escaped-unmarked name unmarked
+shown-unmarked name unmarked =
+    ap (λ m. m ++ escaped name) (cond-false (is_marked name) _ _ unmarked) ∙ escaped-unmarked name unmarked
 
 -- the shown form of a marked name has the mark in front
 pub shown-marked : (name : List ℕ) → is_marked name ≡ true → shown name ≡ 92 ∷ escaped name

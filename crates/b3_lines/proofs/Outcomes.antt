@@ -13,7 +13,7 @@ use Rattle.b3_lines.specs.Names.{has_bad_escape, holds_bad_character, unescaped}
 use Rattle.b3_lines.specs.Reading.{AreDigits, HasOneOutcome, Reads, SaysOne, after_mark, first_refusal, has_mark, name_of, refusal_after_mark, without_return}
 use Rattle.b3_lines.specs.Parts.{HasParts, shown_of}
 use Rattle.b3_lines.specs.Writing.{spaces}
-use Rattle.b3_lines.proofs.Digits.{cut-digits, cut-name, cut-rest, digest-from_digits, join-spaced, list_all-AllPass}
+use Rattle.b3_lines.proofs.DigitsAndSpaces.{cut-digits, cut-name, cut-rest, digest-from_digits, join-spaced, list_all-AllPass}
 use Rattle.b3_lines.proofs.Escapes.{Spells-from_lawful, Spells-unescaped, unescaped-not_nil, unescaped-nil}
 use Rattle.b3_lines.proofs.Refusals.{IsPassed, IsPassed-from_none, first_refusal-text, refusal-none, text-from_none}
 
@@ -34,7 +34,8 @@ marked-cons (b ∷ text) marked = ap (λ x. x ∷ text) (eqb-true b 92 marked)
 -- digits, two spaces and a name follow the mark of a line that has passed the tests
 spaced-digits : (marked : Bool) (rest digest : List ℕ) → IsPassed marked rest → decode_of (take 64 rest) ≡ Ok digest
     → AreDigits (take 64 rest) digest
-spaced-digits marked rest digest passed ok = record { count = length-take-le 64 rest (omega (arith, passed.is_spaced.long)); value = ok }
+spaced-digits marked rest digest passed ok =
+    record { count = length-take-le 64 rest (omega (arith, passed.is_spaced.long)); value = ok }
 
 -- a name of some length is not empty
 not_nil : (name : List ℕ) → (length name == 0) ≡ false → name ≢ []
@@ -96,7 +97,8 @@ IsPassed-from_digits : (marked : Bool) (rest digits digest name : List ℕ) → 
 IsPassed-from_digits marked rest digits digest name are whole some lawful allowed =
     let name_is : drop 66 rest ≡ name = ap (drop 66) whole ∙ cut-name digits name are.count in
     let digits_are : take 64 rest ≡ digits = ap (take 64) whole ∙ cut-digits digits name are.count in
-    let two : take 2 (drop 64 rest) ≡ spaces = ap (λ t. take 2 (drop 64 t)) whole ∙ ap (take 2) (cut-rest digits name are.count) in
+    let two : take 2 (drop 64 rest) ≡ spaces =
+    ap (λ t. take 2 (drop 64 t)) whole ∙ ap (take 2) (cut-rest digits name are.count) in
     let each = list_all-AllPass digits (decode_of-ok digits digest are.value).1 in
     let long = ap length whole in
     let parts = length-append (digits ++ spaces) name in
@@ -114,22 +116,32 @@ IsPassed-from_digits marked rest digits digest name are whole some lawful allowe
     }
 
 -- a line of a mark, digits, two spaces and a lawful name
-says_as : (line digest name shown digits spelled rest : List ℕ) (marked : Bool) → has_mark (without_return line) ≡ marked
-    → after_mark (without_return line) ≡ rest → (length (without_return line) == 0) ≡ false → IsUtf8 (without_return line)
-    → AreDigits digits digest → rest ≡ digits ++ spaces ++ spelled → spelled ≢ [] → (marked && has_bad_escape spelled) ≡ false
+says_as : (line digest name shown digits spelled rest : List ℕ) (marked : Bool)
+    → has_mark (without_return line) ≡ marked
+    → after_mark (without_return line) ≡ rest → (length (without_return line) == 0) ≡ false
+    → IsUtf8 (without_return line)
+    → AreDigits digits digest → rest ≡ digits ++ spaces ++ spelled → spelled ≢ []
+    → (marked && has_bad_escape spelled) ≡ false
     → holds_bad_character name ≡ false → name ≡ name_of marked spelled → shown ≡ shown_of marked spelled
     → SaysAs line digest name shown
-says_as line digest name shown digits spelled rest marked mark_is rest_is filled utf8 are whole some lawful allowed name_is shown_is =
+says_as line digest name shown digits spelled rest marked mark_is rest_is filled utf8 are whole some lawful allowed
+    name_is shown_is =
     let text = without_return line in
-    let passed = IsPassed-from_digits marked rest digits digest spelled are whole some lawful (ap holds_bad_character (sym name_is) ∙ allowed) in
-    let spelled_is : drop 66 (after_mark text) ≡ spelled = ap (drop 66) (rest_is ∙ whole) ∙ cut-name digits spelled are.count in
+    let passed = IsPassed-from_digits marked rest digits digest spelled are whole some lawful
+    (ap holds_bad_character (sym name_is) ∙ allowed) in
+    let spelled_is : drop 66 (after_mark text) ≡ spelled =
+    ap (drop 66) (rest_is ∙ whole) ∙ cut-name digits spelled are.count in
     record {
       accepted =
           first_refusal-text line filled (is_utf8-from_IsUtf8 text utf8)
-          ∙ ap (λ m. refusal_after_mark m (after_mark text)) mark_is ∙ ap (refusal_after_mark marked) rest_is ∙ refusal-none marked rest passed;
-      digits = ap (λ t. decode_of (take 64 t)) (rest_is ∙ whole) ∙ ap decode_of (cut-digits digits spelled are.count) ∙ are.value;
-      name_is = name_is ∙ ap (name_of marked) (sym spelled_is) ∙ ap (λ m. name_of m (drop 66 (after_mark text))) (sym mark_is);
-      shown_is = shown_is ∙ ap (shown_of marked) (sym spelled_is) ∙ ap (λ m. shown_of m (drop 66 (after_mark text))) (sym mark_is);
+          ∙ ap (λ m. refusal_after_mark m (after_mark text)) mark_is ∙ ap (refusal_after_mark marked) rest_is
+          ∙ refusal-none marked rest passed;
+      digits = ap (λ t. decode_of (take 64 t)) (rest_is ∙ whole) ∙ ap decode_of (cut-digits digits spelled are.count)
+          ∙ are.value;
+      name_is = name_is ∙ ap (name_of marked) (sym spelled_is)
+          ∙ ap (λ m. name_of m (drop 66 (after_mark text))) (sym mark_is);
+      shown_is = shown_is ∙ ap (shown_of marked) (sym spelled_is)
+          ∙ ap (λ m. shown_of m (drop 66 (after_mark text))) (sym mark_is);
     }
 
 -- digits begin with no mark
@@ -151,7 +163,8 @@ SaysAs-from_Reads line digest name shown reads =
     elim reads.says [
       | inl says ↦
           let whole : text ≡ says.digits ++ (spaces ++ name) = says.text_is ∙ append_assoc says.digits spaces name in
-          let mark_is : has_mark text ≡ false = ap has_mark whole ∙ has_mark-digits says.digits digest (spaces ++ name) says.digits_are in
+          let mark_is : has_mark text ≡ false =
+          ap has_mark whole ∙ has_mark-digits says.digits digest (spaces ++ name) says.digits_are in
           says_as line digest name shown says.digits name text false mark_is (cond-false (has_mark text) _ _ mark_is)
           (ap (λ t. length t == 0) whole ∙ filled-digits says.digits digest (spaces ++ name) says.digits_are)
           reads.is_text says.digits_are says.text_is reads.is_named refl reads.is_lawful refl says.shown_is
@@ -182,7 +195,8 @@ SaysAs-same line digest name shown digest₂ name₂ shown₂ one two = (
 )
 
 -- the parts of a line, and what is made of them
-pub SaysAs-from_parts : (line digest spelled name shown : List ℕ) (marked : Bool) (escapes : ℕ) → HasParts line digest spelled marked escapes
+pub SaysAs-from_parts : (line digest spelled name shown : List ℕ) (marked : Bool) (escapes : ℕ)
+    → HasParts line digest spelled marked escapes
     → name ≡ name_of marked spelled → shown ≡ shown_of marked spelled → SaysAs line digest name shown
 SaysAs-from_parts line digest spelled name shown marked escapes has name_is shown_is =
     let stands = drop 66 (after_mark (without_return line)) in
@@ -214,7 +228,8 @@ digest_of : (line : List ℕ) → first_refusal line ≡ None
 digest_of line none =
     let text = without_return line in
     let passed = IsPassed-from_none (has_mark text) (after_mark text) (text-from_none line none).2 in
-    digest-from_digits (take 64 (after_mark text)) (length-take-le 64 (after_mark text) (omega (arith, passed.is_spaced.long))) passed.is_spaced.digits
+    digest-from_digits (take 64 (after_mark text))
+    (length-take-le 64 (after_mark text) (omega (arith, passed.is_spaced.long))) passed.is_spaced.digits
 
 -- the outcome of a line, by its first refusal
 one_outcome_at : (line : List ℕ) (refusal : Option LineFault) → first_refusal line ≡ refusal

@@ -30,7 +30,8 @@ written_piece b =
                   | inl is ↦ rw is (carriage_return, refl, refl)
                   | inr not_return ↦
                       let plain : is_escaped b ≡ false =
-                      or_from _ _ (or_from _ _ (ne_eqb b 92 not_backslash) (ne_eqb b 10 not_feed)) (ne_eqb b 13 not_return) in
+                      or_from _ _ (or_from _ _ (ne_eqb b 92 not_backslash) (ne_eqb b 10 not_feed))
+                      (ne_eqb b 13 not_return) in
                       (itself b not_backslash, sym (escape-itself b plain), refl)
                 ]
           ]
@@ -68,7 +69,8 @@ no_return-escape b =
                   | inl is ↦ rw is refl
                   | inr not_return ↦
                       let plain : is_escaped b ≡ false =
-                      or_from _ _ (or_from _ _ (ne_eqb b 92 not_backslash) (ne_eqb b 10 not_feed)) (ne_eqb b 13 not_return) in
+                      or_from _ _ (or_from _ _ (ne_eqb b 92 not_backslash) (ne_eqb b 10 not_feed))
+                      (ne_eqb b 13 not_return) in
                       rw (escape-itself b plain) (or_from (b == 13) false (ne_eqb b 13 not_return) refl)
                 ]
           ]
@@ -82,47 +84,58 @@ no_return-escaped (b ∷ name) =
     ∙ or_from _ _ (no_return-escape b) (no_return-escaped name)
 
 -- what ends in no carriage return is left as it is
-without_return-same : (front tail : List ℕ) → tail ≢ [] → list_any (λ x. x == 13) tail ≡ false → without_return (front ++ tail) ≡ front ++ tail
+without_return-same : (front tail : List ℕ) → tail ≢ [] → list_any (λ x. x == 13) tail ≡ false
+    → without_return (front ++ tail) ≡ front ++ tail
 without_return-same front tail some none =
     let whole = front ++ tail in
     let last = length whole - 1 in
     let count = length-append front tail in
-    let filled : 0 < length tail = elim (cases_eq (length tail) 0) [ inl empty ↦ absurd (some (nil_from_length tail empty)) | inr more ↦ omega arith ] in
+    let filled : 0 < length tail =
+    elim (cases_eq (length tail) 0)
+    [ inl empty ↦ absurd (some (nil_from_length tail empty)) | inr more ↦ omega arith ] in
     let in_tail = get_or-append_right front tail (length front) last 0 refl (omega (arith, count)) in
     let no_return : (slice_index whole last == 13) ≡ false =
     false_from_ne_true _ (λ is.
     both_ways _ none
-    (list_any_at (λ x. x == 13) tail (last - length front) 0 (omega (arith, count)) (ap (λ x. x == 13) (sym in_tail) ∙ is))) in
+    (list_any_at (λ x. x == 13) tail (last - length front) 0 (omega (arith, count))
+    (ap (λ x. x == 13) (sym in_tail) ∙ is))) in
     without_return-cond whole ∙ cond-false _ _ _ no_return
 
 -- ---- reading back
 
 -- the digits of 32 bytes
-AreDigits-encode_lower : (digest : List ℕ) → length digest ≡ 32 → IsBytes digest → AreDigits (encode_lower digest) digest
+AreDigits-encode_lower : (digest : List ℕ) → length digest ≡ 32 → IsBytes digest
+    → AreDigits (encode_lower digest) digest
 AreDigits-encode_lower digest count bytes =
     let twice = length-encode_with lower_digits digest in
     record { count = omega (arith, twice, count); value = decode_of-encode_lower digest bytes }
 
 -- a line that was written has no carriage return at its end
-without_return-plain : (digest name : List ℕ) → name ≢ [] → without_return (plain_text digest name) ≡ plain_text digest name
+without_return-plain : (digest name : List ℕ) → name ≢ []
+    → without_return (plain_text digest name) ≡ plain_text digest name
 unfolding plain_text
 without_return-plain digest name some =
-    without_return-same (mark name ++ encode_lower digest ++ spaces) (escaped name) (escaped-not_nil name some) (no_return-escaped name)
+    without_return-same (mark name ++ encode_lower digest ++ spaces) (escaped name) (escaped-not_nil name some)
+    (no_return-escaped name)
 
 -- the line of a marked name
-plain-marked : (digest name : List ℕ) → is_marked name ≡ true → plain_text digest name ≡ 92 ∷ (encode_lower digest ++ spaces ++ escaped name)
+plain-marked : (digest name : List ℕ) → is_marked name ≡ true
+    → plain_text digest name ≡ 92 ∷ (encode_lower digest ++ spaces ++ escaped name)
 unfolding plain_text
-plain-marked digest name marked = ap (λ m. m ++ encode_lower digest ++ spaces ++ escaped name) (cond-true (is_marked name) _ _ marked)
+plain-marked digest name marked =
+    ap (λ m. m ++ encode_lower digest ++ spaces ++ escaped name) (cond-true (is_marked name) _ _ marked)
 
 -- the line of a name without mark
-plain-unmarked : (digest name : List ℕ) → is_marked name ≡ false → plain_text digest name ≡ encode_lower digest ++ spaces ++ name
+plain-unmarked : (digest name : List ℕ) → is_marked name ≡ false
+    → plain_text digest name ≡ encode_lower digest ++ spaces ++ name
 unfolding plain_text
 plain-unmarked digest name unmarked =
     ap (λ m. m ++ encode_lower digest ++ spaces ++ escaped name) (cond-false (is_marked name) _ _ unmarked)
     ∙ ap (λ t. encode_lower digest ++ spaces ++ t) (escaped-unmarked name unmarked)
 
 -- what is written for a digest of 32 bytes and a lawful name reads to that digest, that name and its shown form
-pub Reads-plain : (digest name : List ℕ) → length digest ≡ 32 → IsBytes digest → name ≢ [] → holds_bad_character name ≡ false
+pub Reads-plain : (digest name : List ℕ) → length digest ≡ 32 → IsBytes digest → name ≢ []
+    → holds_bad_character name ≡ false
     → IsUtf8 name → Reads (plain_text digest name) digest name (shown name)
 Reads-plain digest name count bytes some allowed utf8 =
     let line = plain_text digest name in

@@ -38,7 +38,8 @@ six-none false true true false true _ none = cc none
 six-none false true true false false true none = cc none
 
 -- none of the six is want of memory
-six-not_memory : (short digits spaced empty escape character : Bool) → six short digits spaced empty escape character ≡ Some Memory → ⊥
+six-not_memory : (short digits spaced empty escape character : Bool)
+    → six short digits spaced empty escape character ≡ Some Memory → ⊥
 six-not_memory true _ _ _ _ _ memory = cc memory
 six-not_memory false false _ _ _ _ memory = cc memory
 six-not_memory false true false _ _ _ memory = cc memory
@@ -59,7 +60,8 @@ two-none true _ later none = cc none
 two-none false false later none = cc none
 
 -- and neither are these two
-two-not_memory : (empty utf8 : Bool) (later : Option LineFault) → (later ≡ Some Memory → ⊥) → two empty utf8 later ≡ Some Memory → ⊥
+two-not_memory : (empty utf8 : Bool) (later : Option LineFault) → (later ≡ Some Memory → ⊥)
+    → two empty utf8 later ≡ Some Memory → ⊥
 two-not_memory true _ later not_later memory = cc memory
 two-not_memory false false later not_later memory = cc memory
 two-not_memory false true later not_later memory = not_later memory
@@ -94,14 +96,17 @@ module _ (marked : Bool) (rest : List ℕ) where
   refusal-short short = refusal-six ∙ cond-true _ _ _ (lt-ltb _ _ short)
 
   -- a byte among the first 64 that is no digit
-  pub refusal-not_digits : 66 ≤ length rest → list_all is_hex_digit (take 64 rest) ≡ false → refusal_after_mark marked rest ≡ Some NotDigits
-  refusal-not_digits long bad = refusal-six ∙ cond-false _ _ _ (le-ltb _ _ long) ∙ cond-true _ _ _ (not_from_false _ bad)
+  pub refusal-not_digits : 66 ≤ length rest → list_all is_hex_digit (take 64 rest) ≡ false
+      → refusal_after_mark marked rest ≡ Some NotDigits
+  refusal-not_digits long bad =
+      refusal-six ∙ cond-false _ _ _ (le-ltb _ _ long) ∙ cond-true _ _ _ (not_from_false _ bad)
 
   -- no two spaces behind the digits
   pub refusal-no_spaces : 66 ≤ length rest → list_all is_hex_digit (take 64 rest) ≡ true
       → bytes_eq (take 2 (drop 64 rest)) spaces ≡ false → refusal_after_mark marked rest ≡ Some NoSpaces
   refusal-no_spaces long digits bad =
-      refusal-six ∙ cond-false _ _ _ (le-ltb _ _ long) ∙ cond-false _ _ _ (not_from_true _ digits) ∙ cond-true _ _ _ (not_from_false _ bad)
+      refusal-six ∙ cond-false _ _ _ (le-ltb _ _ long) ∙ cond-false _ _ _ (not_from_true _ digits)
+      ∙ cond-true _ _ _ (not_from_false _ bad)
 
   -- behind the spaces three tests are left
   refusal-spaced : IsSpaced rest → refusal_after_mark marked rest
@@ -131,7 +136,8 @@ module _ (marked : Bool) (rest : List ℕ) where
   -- what has passed all tests is not refused
   pub refusal-none : IsPassed → refusal_after_mark marked rest ≡ None
   refusal-none passed =
-      refusal-spaced passed.is_spaced ∙ cond-false _ _ _ passed.named ∙ cond-false _ _ _ passed.lawful ∙ cond-false _ _ _ passed.allowed
+      refusal-spaced passed.is_spaced ∙ cond-false _ _ _ passed.named ∙ cond-false _ _ _ passed.lawful
+      ∙ cond-false _ _ _ passed.allowed
 
   -- what is not refused has passed all tests
   pub IsPassed-from_none : refusal_after_mark marked rest ≡ None → IsPassed
@@ -150,7 +156,8 @@ module _ (line : List ℕ) where
   text = without_return line
 
   -- two tests come before those of what follows the mark
-  first_refusal-two : first_refusal line ≡ two (length text == 0) (is_utf8 text) (refusal_after_mark (has_mark text) (after_mark text))
+  first_refusal-two : first_refusal line
+      ≡ two (length text == 0) (is_utf8 text) (refusal_after_mark (has_mark text) (after_mark text))
   unfolding first_refusal
   first_refusal-two = refl
 
@@ -169,25 +176,30 @@ module _ (line : List ℕ) where
 
   -- a line that is not refused is text, and what follows its mark is not refused
   pub text-from_none : first_refusal line ≡ None
-      → ((length text == 0) ≡ false) × (is_utf8 text ≡ true) × (refusal_after_mark (has_mark text) (after_mark text) ≡ None)
+      → ((length text == 0) ≡ false) × (is_utf8 text ≡ true)
+      × (refusal_after_mark (has_mark text) (after_mark text) ≡ None)
   text-from_none none = two-none _ _ _ (sym first_refusal-two ∙ none)
 
   -- want of memory is no refusal of a line
   pub first_refusal-not_memory : first_refusal line ≡ Some Memory → ⊥
   first_refusal-not_memory memory =
-      two-not_memory _ _ _ (λ later. six-not_memory _ _ _ _ _ _ (sym (refusal-six (has_mark text) (after_mark text)) ∙ later))
+      two-not_memory _ _ _
+      (λ later. six-not_memory _ _ _ _ _ _ (sym (refusal-six (has_mark text) (after_mark text)) ∙ later))
       (sym first_refusal-two ∙ memory)
 
 -- the first refusal of a text is that of what follows its mark
-pub first_refusal-rest : (line text rest : List ℕ) (marked : Bool) → text ≡ without_return line → IsUtf8 text → (length text == 0) ≡ false
+pub first_refusal-rest : (line text rest : List ℕ) (marked : Bool) → text ≡ without_return line → IsUtf8 text
+    → (length text == 0) ≡ false
     → marked ≡ has_mark text → rest ≡ after_mark text → first_refusal line ≡ refusal_after_mark marked rest
 first_refusal-rest line text rest marked text_is utf8 some mark_is rest_is =
-    first_refusal-text line (ap (λ t. length t == 0) (sym text_is) ∙ some) (ap is_utf8 (sym text_is) ∙ is_utf8-from_IsUtf8 text utf8)
+    first_refusal-text line (ap (λ t. length t == 0) (sym text_is) ∙ some)
+    (ap is_utf8 (sym text_is) ∙ is_utf8-from_IsUtf8 text utf8)
     ∙ ap (λ t. refusal_after_mark (has_mark t) (after_mark t)) (sym text_is)
     ∙ ap (λ m. refusal_after_mark m (after_mark text)) (sym mark_is) ∙ ap (refusal_after_mark marked) (sym rest_is)
 
 -- a line that ends in a carriage return
-ends-return : (line : List ℕ) → pointwise nat_eq (drop (length line - 1) line) (13 ∷ []) ≡ (slice_index line (length line - 1) == 13)
+ends-return : (line : List ℕ)
+    → pointwise nat_eq (drop (length line - 1) line) (13 ∷ []) ≡ (slice_index line (length line - 1) == 13)
 ends-return [] = refl
 ends-return (b ∷ line) =
     let s = b ∷ line in
@@ -198,14 +210,17 @@ ends-return (b ∷ line) =
     ∙ and-true (slice_index s (length s - 1) == 13)
 
 -- the line without its end, as a choice
-pub without_return-cond : (line : List ℕ) → without_return line ≡ cond (slice_index line (length line - 1) == 13) (take (length line - 1) line) line
+pub without_return-cond : (line : List ℕ)
+    → without_return line ≡ cond (slice_index line (length line - 1) == 13) (take (length line - 1) line) line
 unfolding without_return
 without_return-cond line = refl
 
 -- what stripping it leaves
-pub without_return-stripped : (line : List ℕ) (stripped : Option (Bor (List ℕ))) (whole : Bor (List ℕ)) → whole.now ≡ line
+pub without_return-stripped : (line : List ℕ) (stripped : Option (Bor (List ℕ))) (whole : Bor (List ℕ))
+    → whole.now ≡ line
     → MatchOption stripped (pointwise nat_eq (drop (length line - 1) line) (13 ∷ []) ≡ false)
-    (λ x. (pointwise nat_eq (drop (length line - 1) line) (13 ∷ []) ≡ true) × (x.now ≡ take (length line - 1) line) × (length x.now + 1 ≡ length line))
+    (λ x. (pointwise nat_eq (drop (length line - 1) line) (13 ∷ []) ≡ true) × (x.now ≡ take (length line - 1) line)
+    × (length x.now + 1 ≡ length line))
     → (unwrap_or stripped whole).now ≡ without_return line
 without_return-stripped line None whole same without =
     same ∙ sym (without_return-cond line ∙ cond-false _ _ _ (sym (ends-return line) ∙ without))

@@ -24,7 +24,8 @@ escaped-wide c wide =
 
 -- an escape is text
 IsUtf8-pair : (b : ℕ) → b < 128 → IsUtf8 (92 ∷ b ∷ [])
-IsUtf8-pair b ascii = IsUtf8-from_ascii (92 ∷ b ∷ []) (IsAscii-cons 92 (b ∷ []) (omega arith) (IsAscii-cons b [] ascii IsAscii-nil))
+IsUtf8-pair b ascii =
+    IsUtf8-from_ascii (92 ∷ b ∷ []) (IsAscii-cons 92 (b ∷ []) (omega arith) (IsAscii-cons b [] ascii IsAscii-nil))
 
 -- an ASCII byte is written as text
 IsUtf8-escape : (c : ℕ) → c < 128 → IsUtf8 (escape c)
@@ -39,7 +40,8 @@ IsUtf8-escaped_character : (c : ℕ) → scalar c ≡ true → IsUtf8 (escaped (
 IsUtf8-escaped_character c is_scalar =
     elim (cases_lt c 128) [
       | inl ascii ↦
-          let one : escaped (encode c) ≡ escape c = ap escaped (encode_ascii c ascii) ∙ escaped-cons c [] ∙ ap (λ t. escape c ++ t) escaped-nil ∙ append-nil (escape c) in
+          let one : escaped (encode c) ≡ escape c = ap escaped (encode_ascii c ascii) ∙ escaped-cons c []
+          ∙ ap (λ t. escape c ++ t) escaped-nil ∙ append-nil (escape c) in
           rw one (IsUtf8-escape c ascii)
       | inr wide ↦ rw (escaped-wide c wide) (IsUtf8-encode c is_scalar)
     ]
@@ -58,20 +60,25 @@ IsUtf8-escaped name utf8 = subst (λ t. IsUtf8 (escaped t)) utf8.1.1 (IsUtf8-esc
 
 -- the mark, the digits and the spaces are ASCII
 IsUtf8-mark : (name : List ℕ) → IsUtf8 (mark name)
-IsUtf8-mark name = cond_both (is_marked name) _ _ IsUtf8 (λ _. IsUtf8-from_ascii (92 ∷ []) (IsAscii-cons 92 [] (omega arith) IsAscii-nil)) (λ _. IsUtf8-nil)
+IsUtf8-mark name =
+    cond_both (is_marked name) _ _ IsUtf8
+    (λ _. IsUtf8-from_ascii (92 ∷ []) (IsAscii-cons 92 [] (omega arith) IsAscii-nil)) (λ _. IsUtf8-nil)
 
 -- the digits are ASCII
 IsAscii-lower_digits : IsAscii lower_digits
 IsAscii-lower_digits =
     let ascii : ℕ → Bool = λ b. nat_lt b 128 in
-    IsAscii-from_all lower_digits (λ k d within. ltb-true _ 128 (and_at (list_all ascii) ascii refl (λ _ _. refl) lower_digits k d within refl))
+    IsAscii-from_all lower_digits
+    (λ k d within. ltb-true _ 128 (and_at (list_all ascii) ascii refl (λ _ _. refl) lower_digits k d within refl))
 
 -- a line is text
 pub IsUtf8-plain : (digest name : List ℕ) → IsUtf8 name → IsUtf8 (plain_text digest name)
 unfolding plain_text
 IsUtf8-plain digest name utf8 =
-    let digits = IsUtf8-from_ascii (encode_lower digest) (IsAscii-encode_with lower_digits digest IsAscii-lower_digits) in
-    let gap = IsUtf8-from_ascii spaces (IsAscii-cons 32 (32 ∷ []) (omega arith) (IsAscii-cons 32 [] (omega arith) IsAscii-nil)) in
+    let digits = IsUtf8-from_ascii (encode_lower digest)
+    (IsAscii-encode_with lower_digits digest IsAscii-lower_digits) in
+    let gap = IsUtf8-from_ascii spaces
+    (IsAscii-cons 32 (32 ∷ []) (omega arith) (IsAscii-cons 32 [] (omega arith) IsAscii-nil)) in
     IsUtf8-append _ _ (IsUtf8-append _ _ (IsUtf8-append _ _ (IsUtf8-mark name) digits) gap) (IsUtf8-escaped name utf8)
 
 -- a shown form is text

@@ -1,34 +1,34 @@
 //! Why a line is refused.
 
-ghost use Rattle.std.specs.Prelude.{◌≡◌};
+ghost use Rattle.std.specs.Prelude.{◌≡◌, Some};
 ghost use Rattle.b3_lines.specs.declared.fault.LineFault.TheVariants.{Memory};
 
 use std::alloc::{AllocError, AllocFailed};
-use thiserror::Error;
+use std::error::Error;
+use std::fmt;
 
-/// Why a line is refused, or a name to be written. Of several that hold, the first in this order
-/// is answered.
-#[derive(Clone, Copy, Debug, PartialEq, Eq, Error)]
-#[error("{reason}", reason = self.reason())]
+/// Why a line is refused, or a name to be written, with the number of the refusal. Of several
+/// that hold, the one with the lowest number is answered.
+#[derive(Clone, Copy, Debug, PartialEq, Eq)]
 pub enum LineFault {
     /// The line has no bytes.
-    Empty,
+    Empty = 1,
     /// The line is not UTF-8.
-    NotText,
+    NotText = 2,
     /// The line has fewer than 66 bytes behind its mark.
-    Short,
+    Short = 3,
     /// One of the first 64 bytes is no hex digit.
-    NotDigits,
+    NotDigits = 4,
     /// The digits are not followed by two spaces.
-    NoSpaces,
+    NoSpaces = 5,
     /// The name is empty.
-    NoName,
+    NoName = 6,
     /// A backslash of a marked line is followed by none of a backslash, `n` and `r`.
-    BadEscape,
+    BadEscape = 7,
     /// The name holds NUL or U+FFFD.
-    BadCharacter,
+    BadCharacter = 8,
     /// A growth was refused.
-    Memory,
+    Memory = 9,
 }
 
 impl LineFault {
@@ -51,6 +51,19 @@ impl LineFault {
         }
     }
 }
+
+/// Shown as its `reason`.
+impl fmt::Display for LineFault {
+    ghost use Rattle.b3_lines.specs.Reasons.{reason_of};
+
+    ghost output = { λ fault. Some (reason_of fault) };
+
+    fn fmt<W: fmt::Write>(&self, f: &mut fmt::Formatter<W>) -> fmt::Result {
+        f.write_str(self.reason())
+    }
+}
+
+impl Error for LineFault {}
 
 impl From<AllocError> for LineFault {
     ghost from_gives = { λ _ fault. fault ≡ Memory };

@@ -9,11 +9,14 @@
 
 mod fault;
 mod names;
+mod places;
 mod reading;
 mod writing;
 
 pub use fault::LineFault;
-pub use reading::{Line, read_line};
+pub use names::holds_bad_character;
+pub use places::Lines;
+pub use reading::{Line, lines, read_line};
 pub use writing::{shown_name, write_line};
 
 #[cfg(test)]

@@ -95,7 +95,7 @@ pub(crate) fn unescaped(alloc: Global, text: &str, escapes: usize) -> Result<Str
 }
 
 /// Whether NUL or U+FFFD stands in a name, escaped or not.
-pub(crate) fn holds_bad_character(name: &[u8]) -> bool
+pub fn holds_bad_character(name: &[u8]) -> bool
     ensures { result ≡ holds_bad_character name.now }
 {
     memchr(0, name).is_some() || memmem::find(name, "\u{FFFD}".as_bytes()).is_some()

@@ -11,6 +11,27 @@ fn digest(rt: &impl Abort) -> [u8; 32] {
     <[u8; 32]>::from_hex(DIGITS).expect(rt, "64 digits")
 }
 
+#[test]
+fn places_of_lines(rt: HostRuntime) {
+    let rows: [(&[u8], &[(usize, usize)]); 7] = [
+        (b"a\n\nb", &[(0, 1), (2, 2), (3, 4)]),
+        (b"\n", &[(0, 0)]),
+        (b"", &[]),
+        (b"a", &[(0, 1)]),
+        (b"a\n", &[(0, 1)]),
+        (b"ab\r\n\n", &[(0, 3), (4, 4)]),
+        (b"\n\n\r", &[(0, 0), (1, 1), (2, 3)]),
+    ];
+    for (text, places) in rows {
+        let mut left = lines(text);
+        for place in places {
+            assert_eq!(rt; left.next(), Some(*place), "in {text:?}");
+        }
+        assert_eq!(rt; left.next(), None, "in {text:?}");
+        assert_eq!(rt; left.next(), None, "in {text:?}, asked again");
+    }
+}
+
 /// The bytes of `before`, the digits and `after`, as a line.
 fn line_of(alloc: Global, before: &[u8], after: &[u8]) -> Result<Vec<u8>, AllocError> {
     let mut line = Vec::from_slice(alloc, before)?;
@@ -196,19 +217,38 @@ fn each_byte_behind_a_backslash(rt: HostRuntime) -> Result<(), Fail> {
 }
 
 #[test]
-fn reasons(rt: HostRuntime) {
-    let rows = [
-        (LineFault::Empty, "empty line"),
-        (LineFault::NotText, "not text"),
-        (LineFault::Short, "short line"),
-        (LineFault::NotDigits, "bad digits"),
-        (LineFault::NoSpaces, "missing spaces"),
-        (LineFault::NoName, "no name"),
-        (LineFault::BadEscape, "bad escape"),
-        (LineFault::BadCharacter, "bad character"),
-        (LineFault::Memory, "out of memory"),
-    ];
-    for (fault, want) in rows {
-        assert_eq!(rt; fault.reason(), want);
+fn a_backslash_that_ends_a_marked_name_is_a_bad_escape(rt: HostRuntime) -> Result<(), Fail> {
+    let alloc = rt.alloc();
+    for after in ["  \\", "  a\\", "  a\\\\\\", "  a\\\r"] {
+        let line = line_of(alloc, b"\\", after.as_bytes())?;
+        assert_eq!(rt;
+            read_line(alloc, &line).err(),
+            Some(LineFault::BadEscape),
+            "at {after:?}"
+        );
     }
+    let whole = read_line(alloc, &line_of(alloc, b"\\", b"  a\\\\")?)?;
+    assert_eq!(rt; whole.name.as_str(), "a\\");
+    Ok(())
+}
+
+#[test]
+fn refusals_have_their_numbers_and_texts(rt: HostRuntime) -> Result<(), Fail> {
+    let rows = [
+        (1, LineFault::Empty, "empty line"),
+        (2, LineFault::NotText, "not text"),
+        (3, LineFault::Short, "short line"),
+        (4, LineFault::NotDigits, "bad digits"),
+        (5, LineFault::NoSpaces, "missing spaces"),
+        (6, LineFault::NoName, "no name"),
+        (7, LineFault::BadEscape, "bad escape"),
+        (8, LineFault::BadCharacter, "bad character"),
+        (9, LineFault::Memory, "out of memory"),
+    ];
+    for (number, fault, text) in rows {
+        assert_eq!(rt; fault as u8, number);
+        assert_eq!(rt; fault.reason(), text);
+        assert_eq!(rt; fault.to_string(rt.alloc())?.as_str(), text);
+    }
+    Ok(())
 }

@@ -27,7 +27,8 @@ loop-at-preserved c =
     let at = c.in-Some.at in
     let is = eqb-true (slice_index rest at) 92 found.1 in
     let step =
-    counts-step rest (take (length rest - (at + 2)) (drop (at + 2) rest)) at (take_rest rest (at + 2)) (omega (arith, found.0.high)) is
+    counts-step rest (take (length rest - (at + 2)) (drop (at + 2) rest)) at (take_rest rest (at + 2))
+    (omega (arith, found.0.high)) is
     found.0.before (sym c.ends_escape.ensures ∙ c.if-not-ends_escape.false) in
     record {
       same = c.loop-at.invariant.same ∙ step.0;

@@ -15,4 +15,5 @@ loop-at-preserved c =
 pub returns : goal.returns
 returns c =
     OnOk-grown _ _ _ _ _ c.extend_from_slice-2.ensures.items
-    (ap (λ t. c.loop-at.line.items ++ t) (sym (escaped-none c.loop-at.rest.now c.in_default.ensures)) ∙ c.loop-at.invariant)
+    (ap (λ t. c.loop-at.line.items ++ t) (sym (escaped-none c.loop-at.rest.now c.in_default.ensures))
+    ∙ c.loop-at.invariant)

@@ -28,7 +28,8 @@ returns-clause-refused c =
     let mark = c.after_mark-marked.ensures.mark in
     let rest = c.after_mark-marked.ensures.rest in
     let same = first_refusal-rest c.args.line.now c.in-Ok.text.now _ _ text_is utf8 filled mark rest in
-    MatchResult-weaker c.parts_after_mark.result c.parts_after_mark.ensures.refused (λ _ _. tt) (λ fault refused. same ∙ refused)
+    MatchResult-weaker c.parts_after_mark.result c.parts_after_mark.ensures.refused (λ _ _. tt)
+    (λ fault refused. same ∙ refused)
 
 pub returns-clause-taken : goal.returns-clause-taken
 returns-clause-taken c =

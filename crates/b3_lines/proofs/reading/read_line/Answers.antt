@@ -24,19 +24,24 @@ returns-in_err-parts-clause-only c digest name shown reads =
 pub returns-in_err-parts-clause-memory : goal.returns-in_err-parts-clause-memory
 returns-in_err-parts-clause-memory c =
     let p = err_from_is_err_and c.from_residual.result c.from_residual.ensures.1 in
-    λ memory. absurd (first_refusal-not_memory c.args.line.now (c.in_err-parts.ensures.refused ∙ (let is = p.1 in let fault = p.2 in cc)))
+    λ memory. absurd
+    (first_refusal-not_memory c.args.line.now
+    (c.in_err-parts.ensures.refused ∙ (let is = p.1 in let fault = p.2 in cc)))
 
 pub returns-clause-read : goal.returns-clause-read
 returns-clause-read c =
     let parts = c.in_ok-parts.parts in
     Reads-from_SaysAs c.args.line.now parts.digest (string_bytes c.in_ok-name.name) (string_bytes c.in_ok-shown.shown)
-    (SaysAs-from_parts c.args.line.now parts.digest parts.spelled.now _ _ parts.marked parts.escapes c.in_ok-parts.ensures.taken
+    (SaysAs-from_parts c.args.line.now parts.digest parts.spelled.now _ _ parts.marked parts.escapes
+    c.in_ok-parts.ensures.taken
     c.in_ok-name.ensures c.in_ok-shown.ensures)
 
 pub returns-clause-only : goal.returns-clause-only
 returns-clause-only c digest name shown reads =
     let parts = c.in_ok-parts.parts in
-    SaysAs-same c.args.line.now parts.digest (string_bytes c.in_ok-name.name) (string_bytes c.in_ok-shown.shown) digest name shown
-    (SaysAs-from_parts c.args.line.now parts.digest parts.spelled.now _ _ parts.marked parts.escapes c.in_ok-parts.ensures.taken
+    SaysAs-same c.args.line.now parts.digest (string_bytes c.in_ok-name.name) (string_bytes c.in_ok-shown.shown) digest
+    name shown
+    (SaysAs-from_parts c.args.line.now parts.digest parts.spelled.now _ _ parts.marked parts.escapes
+    c.in_ok-parts.ensures.taken
     c.in_ok-name.ensures c.in_ok-shown.ensures)
     (SaysAs-from_Reads c.args.line.now digest name shown reads)

@@ -11,12 +11,15 @@ loop-piece-preserved c =
     let steps = c.in-Some.ensures.steps in
     let kept = c.loop-piece.invariant in
     let size : chunks_size c.next.new.self ≡ 32 = steps.0 ∙ kept.2 in
-    let written = IfOk-at_ok (λ _. c.encode_to_slice.new.output ≡ encode_lower c.in-Some.piece.now) c.unwrap.ensures c.encode_to_slice.ensures.written in (
+    let written = IfOk-at_ok (λ _. c.encode_to_slice.new.output ≡ encode_lower c.in-Some.piece.now) c.unwrap.ensures
+    c.encode_to_slice.ensures.written in (
       omega (arith, size),
       tt,
       size,
-      digits-step c.loop-piece.line.items c.extend_from_slice.new.self.items c.encode_to_slice.new.output c.in-Some.piece.now
-          (chunks_rest c.next.new.self) (chunks_rest c.loop-piece.piece-iterator) _ kept.3 c.in_ok-extend_from_slice.ensures.items written steps.1.0,
+      digits-step c.loop-piece.line.items c.extend_from_slice.new.self.items c.encode_to_slice.new.output
+          c.in-Some.piece.now
+          (chunks_rest c.next.new.self) (chunks_rest c.loop-piece.piece-iterator) _ kept.3
+          c.in_ok-extend_from_slice.ensures.items written steps.1.0,
     )
 
 pub returns : goal.returns
@@ -24,4 +27,5 @@ returns c =
     let steps = c.in-None.ensures.steps in
     let none = nil_from_length (chunks_rest c.loop-piece.piece-iterator) steps.1.0 in
     let line = c.loop-piece.line.items in
-    sym (append-nil line) ∙ ap (λ t. line ++ t) (sym (ap encode_lower none ∙ encode_lower-nil)) ∙ c.loop-piece.invariant.3
+    sym (append-nil line) ∙ ap (λ t. line ++ t) (sym (ap encode_lower none ∙ encode_lower-nil))
+    ∙ c.loop-piece.invariant.3

@@ -27,7 +27,8 @@ returns-clause-written c =
     c.in_ok-push_mark.ensures ∙ ap (λ m. c.in_ok-line.line.items ++ cond m (92 ∷ []) []) marked_is in
     let named : c.push_escaped.new.line.items ≡ c.extend_from_slice.new.self.items ++ escaped name =
     c.in_ok-push_escaped.ensures ∙ ap (λ t. c.extend_from_slice.new.self.items ++ escaped t) bytes_are in
-    plain-written digest name c.in_ok-line.line.items c.push_mark.new.line.items c.push_digits.new.line.items c.extend_from_slice.new.self.items
+    plain-written digest name c.in_ok-line.line.items c.push_mark.new.line.items c.push_digits.new.line.items
+    c.extend_from_slice.new.self.items
     c.push_escaped.new.line.items c.push.new.self.items c.in_ok-line.ensures.items marked c.in_ok-push_digits.ensures
     c.in_ok-extend_from_slice.ensures.items named c.in_ok-push.ensures.items
 
@@ -36,8 +37,10 @@ returns-clause-read_back c count =
     let name = c.args.name.now in
     let digest = c.args.digest.now in
     let bytes_are = c.as_bytes-name.ensures.value in
-    let some = λ (empty : name ≡ []). eqb-false (length name) 0 (sym c.is_empty.ensures ∙ c.if-is_empty.false) (ap length empty) in
-    let allowed : holds_bad_character name ≡ false = ap holds_bad_character (sym bytes_are) ∙ sym c.holds_bad_character.ensures ∙ c.if-holds_bad_character.false in (
+    let some = λ (empty : name ≡ []). eqb-false (length name) 0 (sym c.is_empty.ensures ∙ c.if-is_empty.false)
+    (ap length empty) in
+    let allowed : holds_bad_character name ≡ false =
+    ap holds_bad_character (sym bytes_are) ∙ sym c.holds_bad_character.ensures ∙ c.if-holds_bad_character.false in (
       plain_text digest name,
       returns-clause-written c,
       Reads-plain digest name count (λ i. omega (arith, c.type_inv.digest i)) some allowed c.utf8.name,

@@ -16,7 +16,8 @@ use Rattle.b3_lines.proofs.Refusals.{IsSpaced}
 
 -- the test of each digit, as a computation
 pub list_all-AllPass : (s : List ℕ) → AllPass is_hex_digit s → list_all is_hex_digit s ≡ true
-list_all-AllPass s each = and_from_places (list_all is_hex_digit) is_hex_digit refl (λ _ _. refl) s 0 (λ i within. each i 0 within)
+list_all-AllPass s each =
+    and_from_places (list_all is_hex_digit) is_hex_digit refl (λ _ _. refl) s 0 (λ i within. each i 0 within)
 
 -- and back
 pub AllPass-list_all : (s : List ℕ) → list_all is_hex_digit s ≡ true → AllPass is_hex_digit s
@@ -27,13 +28,15 @@ IsOk-from_ok : {A E : Type 0} (r : Result A E) (x : A) → r ≡ Ok x → IsOk r
 IsOk-from_ok r x is = rw is refl
 
 -- 64 bytes that decode are digits
-pub digits-from_ok : (s digest : List ℕ) → decode_sized s 32 ≡ Ok digest → (list_all is_hex_digit s ≡ true) × (decode_of s ≡ Ok digest)
+pub digits-from_ok : (s digest : List ℕ) → decode_sized s 32 ≡ Ok digest
+    → (list_all is_hex_digit s ≡ true) × (decode_of s ≡ Ok digest)
 digits-from_ok s digest ok =
     let parts = (IsOk-decode_sized s 32).0 (IsOk-from_ok _ digest ok) in
     (list_all-AllPass s parts.1, sym (decode_sized-twice s 32 parts.0) ∙ ok)
 
 -- and 64 that do not decode are not
-pub digits-from_err : (s : List ℕ) (e : FromHexError) → length s ≡ 64 → decode_sized s 32 ≡ Err e → list_all is_hex_digit s ≡ false
+pub digits-from_err : (s : List ℕ) (e : FromHexError) → length s ≡ 64 → decode_sized s 32 ≡ Err e
+    → list_all is_hex_digit s ≡ false
 digits-from_err s e count err =
     false_from_ne_true _ (λ each.
     let ok = (IsOk-decode_sized s 32).1 (count, AllPass-list_all s each) in
@@ -41,7 +44,8 @@ digits-from_err s e count err =
     cc no)
 
 -- 64 digits decode to one digest
-pub digest-from_digits : (s : List ℕ) → length s ≡ 64 → list_all is_hex_digit s ≡ true → (digest : List ℕ) × (decode_of s ≡ Ok digest)
+pub digest-from_digits : (s : List ℕ) → length s ≡ 64 → list_all is_hex_digit s ≡ true
+    → (digest : List ℕ) × (decode_of s ≡ Ok digest)
 digest-from_digits s count each = decode_of-digits s (omega arith) (AllPass-list_all s each)
 
 -- 64 digits, two spaces and a name, cut up
@@ -59,15 +63,19 @@ cut-name digits name count =
     sym further ∙ ap (drop 2) (cut-rest digits name count)
 
 -- what has digits and two spaces in front is put together of them
-pub join-spaced : (rest : List ℕ) → bytes_eq (take 2 (drop 64 rest)) spaces ≡ true → rest ≡ take 64 rest ++ spaces ++ drop 66 rest
+pub join-spaced : (rest : List ℕ) → bytes_eq (take 2 (drop 64 rest)) spaces ≡ true
+    → rest ≡ take 64 rest ++ spaces ++ drop 66 rest
 join-spaced rest spaced =
     let two = (bytes_eq-Decides (take 2 (drop 64 rest)) spaces).0 spaced in
     let behind : drop 2 (drop 64 rest) ≡ drop 66 rest = drop-drop 2 64 rest in
-    let tail : drop 64 rest ≡ spaces ++ drop 66 rest = sym (take-append-drop 2 (drop 64 rest)) ∙ ap (λ t. t ++ drop 2 (drop 64 rest)) two ∙ ap (λ t. spaces ++ t) behind in
-    sym (take-append-drop 64 rest) ∙ ap (λ t. take 64 rest ++ t) tail ∙ sym (append_assoc (take 64 rest) spaces (drop 66 rest))
+    let tail : drop 64 rest ≡ spaces ++ drop 66 rest = sym (take-append-drop 2 (drop 64 rest))
+    ∙ ap (λ t. t ++ drop 2 (drop 64 rest)) two ∙ ap (λ t. spaces ++ t) behind in
+    sym (take-append-drop 64 rest) ∙ ap (λ t. take 64 rest ++ t) tail
+    ∙ sym (append_assoc (take 64 rest) spaces (drop 66 rest))
 
 -- what is read of the bytes that follow the mark, where their digits and their spaces are right
-pub IsSpaced-from_reads : (rest bytes two digest : List ℕ) → bytes ≡ rest → 66 ≤ length bytes → Ok digest ≡ decode_sized (take 64 bytes) 32
+pub IsSpaced-from_reads : (rest bytes two digest : List ℕ) → bytes ≡ rest → 66 ≤ length bytes
+    → Ok digest ≡ decode_sized (take 64 bytes) 32
     → two ≡ spaces → false ≡ not (pointwise nat_eq (take 2 (drop 64 bytes)) two) → IsSpaced rest
 IsSpaced-from_reads rest bytes two digest same long ok two_is spaced =
     let read : IsSpaced bytes = record {
@@ -83,5 +91,6 @@ IsCharBoundary-name rest utf8 spaced =
     let long = spaced.long in
     let two = (bytes_eq-Decides (take 2 (drop 64 rest)) spaces).0 spaced.spaced in
     let space : slice_index rest 65 ≡ 32 =
-    sym (get_or-drop 64 rest 1 0) ∙ sym (get_or-take 2 (drop 64 rest) 1 0 (omega arith)) ∙ ap (λ t. slice_index t 1) two in
+    sym (get_or-drop 64 rest 1 0) ∙ sym (get_or-take 2 (drop 64 rest) 1 0 (omega arith))
+    ∙ ap (λ t. slice_index t 1) two in
     IsCharBoundary-after_ascii rest 65 utf8 (omega (arith, long)) (omega (arith, space))
