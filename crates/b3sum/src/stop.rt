@@ -1,17 +1,18 @@
 //! Why a call ends before it reads anything.
 
-ghost use Rattle.std.specs.Prelude.{◌≡◌};
+ghost use Rattle.std.specs.Prelude.{◌≡◌, ◌+◌, ◌-◌, ◌^◌, ◌<◌};
 
-use crate::engine::RunFault;
+use crate::say::{say, say_line};
+use b3_check::{RunFault, Sink};
 use clap::error::ErrorKind;
-use std::alloc::AllocError;
+use std::alloc::{AllocError, Global};
 use std::io;
 
 /// The status of a run that failed.
 pub const FAILURE: u8 = 1;
 
-/// The status of a call that the program does not take.
-const USAGE: u8 = 2;
+/// The status of a call whose words are not taken.
+pub const USAGE: u8 = 2;
 
 /// Why a call ends before it reads anything.
 #[derive(Debug, Drop)]
@@ -20,38 +21,63 @@ pub enum Stop {
     NotText,
     /// A growth was refused.
     Memory,
-    /// A word is not taken, or asks for the help or the version.
-    Words(clap::Error),
+    /// There are more files than a run may have.
+    TooManyFiles,
+    /// The words are not taken, and this says why.
+    Refused(String),
+    /// The words ask for this text: the help or the version.
+    Asked(String),
 }
 
 impl Stop {
-    ghost use Rattle.b3sum.specs.Stops.{IsStatusOf};
+    ghost use Rattle.b3_check.specs.Runs.{sheet};
+    ghost use Rattle.b3sum.specs.Stops.{EndsBy, IsStopFor};
 
-    /// Says why, and answers the status. The help and the version are no faults, unless they cannot be
-    /// written.
-    pub fn say<R: Print + Eprint>(&self, rt: &R) -> u8
-        ensures { IsStatusOf self.now result }
+    /// Why `clap` gives no matches: its own text, if there is memory for it.
+    pub fn of_words(alloc: Global, error: &clap::Error) -> Stop
+        ensures { IsStopFor error.now result }
+    {
+        if error.kind() == ErrorKind::OutOfMemory {
+            return Stop::Memory;
+        }
+        match format!(in alloc; "{error}") {
+            Ok(text) if error.use_stderr() => Stop::Refused(text),
+            Ok(text) => Stop::Asked(text),
+            Err(AllocError) => Stop::Memory,
+        }
+    }
+
+    /// Says why, and answers the status. Help and version are no faults, unless they cannot be written.
+    pub fn say<O: Sink, E: Sink>(&self, out: &mut O, err: &mut E) -> u8
+        requires out { O.failures out.old < 2 ^ 64 - 1 }
+        requires err { E.failures err.old < 2 ^ 64 - 1 }
+        ensures { EndsBy self.now (sheet O.Sink out.old) (sheet E.Sink err.old)
+            (sheet O.Sink out.new) (sheet E.Sink err.new) result }
     {
         match self {
             Stop::NotText => {
-                let _ = rt.eprintln("b3sum: an argument is not text");
+                say_line(err, "b3sum: an argument is not text", "");
+                USAGE
+            }
+            Stop::TooManyFiles => {
+                say_line(err, "b3sum: too many files", "");
                 USAGE
             }
             Stop::Memory => {
-                let _ = rt.eprintln(RunFault::Memory.text());
+                say_line(err, RunFault::Memory.text(), "");
                 FAILURE
             }
-            Stop::Words(error) if error.use_stderr() => {
-                let _ = error.print(rt);
+            Stop::Refused(text) => {
+                say(err, text.as_str());
                 USAGE
             }
-            Stop::Words(text) => match text.print(rt) {
-                Ok(()) => 0,
-                Err(_) => {
-                    let _ = rt.eprintln(RunFault::WriteFault.text());
-                    FAILURE
+            Stop::Asked(text) => {
+                if say(out, text.as_str()) {
+                    return 0;
                 }
-            },
+                say_line(err, RunFault::WriteFault.text(), "");
+                FAILURE
+            }
         }
     }
 }
@@ -66,20 +92,11 @@ impl From<AllocError> for Stop {
     }
 }
 
-impl From<clap::Error> for Stop {
-    ghost use Rattle.b3sum.specs.Stops.{IsStopFor};
-
-    ghost from_gives = { IsStopFor };
-
-    fn from(error: clap::Error) -> Stop {
-        if error.kind() == ErrorKind::OutOfMemory {
-            return Stop::Memory;
-        }
-        Stop::Words(error)
-    }
-}
-
 impl From<io::Error> for Stop {
+    ghost use Rattle.b3sum.specs.Stops.{IsStopForInput};
+
+    ghost from_gives = { IsStopForInput };
+
     fn from(error: io::Error) -> Stop {
         if error.kind() == io::ErrorKind::InvalidData {
             return Stop::NotText;

@@ -1,90 +1,84 @@
 //! The words of a call.
 
-ghost use Rattle.std.specs.Prelude.{◌≡◌, ◌≤◌, ◌^◌, unwrap_or};
+ghost use Rattle.std.specs.Prelude.{◌≤◌, ◌^◌, vec_len};
 ghost use Rattle.std.specs.Option.{ForSome};
+ghost use Rattle.b3_check.specs.declared.options.TheConstants.{MAX_OUTPUT_LEN};
 
-use crate::engine::{Form, KeyChoice, SumOptions};
-use clap::{Arg, ArgMatches, Command, Error, value_parser};
+use crate::command::command;
+use crate::stop::Stop;
+use b3_check::MAX_OUTPUT_LEN;
+use clap::ArgMatches;
 use std::alloc::{AllocError, Global};
 
-/// The greatest number of output bytes that can be asked for.
-const LENGTH_MAX: u32 = 1_048_576;
+/// The greatest number of files that a call may name.
+const MAX_FILES: usize = 1 << 30;
 
-/// The number of output bytes where no word says another.
-const LENGTH_DEFAULT: u32 = 32;
-
-const WORKERS: u32 = 4;
-
-const TURNS: u64 = 1 << 40;
-
-const LARGEST: u64 = 1 << 30;
-
-/// What the words of a call ask for.
+/// What the words of a call say.
 #[derive(Debug, Drop)]
 pub struct Words {
-    /// How many bytes of the output are written, where a word says so.
-    pub length: Option<u32>,
-    /// The context of a derived key, where a word gives one.
+    /// Lists are checked.
+    pub check: bool,
+    /// The hash is keyed by standard input.
+    pub keyed: bool,
+    /// The context of a derived key.
     pub derive_key: Option<String>,
-    ghost length_in_range: { ForSome length (λ n. n ≤ 1048576) },
+    /// How many bytes of the output are written.
+    pub length: Option<u32>,
+    /// The bytes of the output are written, and no digits.
+    pub raw: bool,
+    /// Digests are written without names.
+    pub no_names: bool,
+    /// Nothing is said of files that are OK.
+    pub quiet: bool,
+    /// How many threads hash.
+    pub num_threads: Option<u16>,
+    /// The files, as they were given.
+    pub files: Vec<String>,
+    ghost length_in_range: { ForSome length (λ n. n ≤ MAX_OUTPUT_LEN) },
+    ghost files_in_range: { vec_len files ≤ 2 ^ 30 },
 }
 
 impl Words {
-    ghost use Rattle.b3sum.specs.Words.{CanRun, options_of};
-
-    /// Reads the words, of which the first is the program's own name. What is wrong with them, the
-    /// help and the version come as an error of `clap`.
-    pub fn read(alloc: Global, words: &[String]) -> Result<Words, Error> {
-        let matches = command(alloc)?.try_get_matches_from(words)?;
-        Words::from_matches(alloc, &matches).map_err(Error::from)
-    }
-
-    fn from_matches(alloc: Global, matches: &ArgMatches) -> Result<Words, AllocError> {
+    /// Reads the words, of which the first is the program's own name.
+    pub fn read(alloc: Global, words: &[String]) -> Result<Words, Stop> {
+        let matches = match command(alloc)?.try_get_matches_from(words) {
+            Ok(matches) => matches,
+            Err(error) => return Err(Stop::of_words(alloc, &error)),
+        };
+        let files = files(alloc, &matches)?;
+        if files.len() > MAX_FILES {
+            return Err(Stop::TooManyFiles);
+        }
         Ok(Words {
+            check: matches.get_flag("check"),
+            keyed: matches.get_flag("keyed"),
+            derive_key: context(alloc, &matches)?,
             // No greater number passes the parser.
             length: matches
                 .get_one::<u32>("length")
-                .map(|length| length.min(LENGTH_MAX)),
-            derive_key: match matches.get_str("derive-key") {
-                Some(context) => Some(String::from_str(alloc, context)?),
-                None => None,
-            },
+                .map(|length| length.min(MAX_OUTPUT_LEN)),
+            raw: matches.get_flag("raw"),
+            no_names: matches.get_flag("no-names"),
+            quiet: matches.get_flag("quiet"),
+            num_threads: matches.get_one::<u16>("num-threads"),
+            files,
         })
-    }
-
-    /// What is summed for these words.
-    pub fn into_options(self) -> SumOptions
-        ensures value { result ≡ options_of self }
-        ensures can_run { CanRun result }
-    {
-        let Words { length, derive_key } = self;
-        SumOptions {
-            key: derive_key.map_or(KeyChoice::Plain, KeyChoice::Derive),
-            seek: 0,
-            length: length.unwrap_or(LENGTH_DEFAULT),
-            form: Form::Named,
-            workers: WORKERS,
-            turns: TURNS,
-            largest: LARGEST,
-        }
     }
 }
 
-// The words that are taken.
-fn command<'a>(alloc: Global) -> Result<Command<'a>, AllocError> {
-    let length = Arg::new(alloc, "length")
-        .short('l')
-        .long("length")
-        .value_name("N")
-        .value_parser(value_parser!(u32).range(0..=1_048_576))
-        .help("How many bytes of output to write, 0 to 1048576; 32 where it is not given");
-    let derive_key = Arg::new(alloc, "derive-key")
-        .long("derive-key")
-        .value_name("CONTEXT")
-        .help("Take the input as key material, and derive a key from it under this context");
-    Command::new(alloc, "b3sum")
-        .version("0.1.0")
-        .about("Writes the BLAKE3 checksum of standard input as a check line")
-        .arg(length)?
-        .arg(derive_key)
+fn context(alloc: Global, matches: &ArgMatches) -> Result<Option<String>, AllocError> {
+    match matches.get_str("derive-key") {
+        Some(context) => Ok(Some(String::from_str(alloc, context)?)),
+        None => Ok(None),
+    }
+}
+
+fn files(alloc: Global, matches: &ArgMatches) -> Result<Vec<String>, AllocError> {
+    let mut files = Vec::new(alloc);
+    if let Some(words) = matches.get_strs("FILE") {
+        for word in words {
+            files.push(String::from_str(alloc, word)?)?;
+        }
+    }
+    Ok(files)
 }

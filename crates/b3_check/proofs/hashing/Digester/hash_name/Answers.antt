@@ -1,0 +1,19 @@
+use Rattle.std.proofs.Common.{◌∙◌, ap, rules, subst}
+use Rattle.b3_core.specs.Output.{output_bytes}
+use Rattle.b3_hash.specs.Readers.{Reader}
+use Rattle.b3_check.specs.Contents.{HasContent}
+use Rattle.b3_check.specs.Reading.{IsOutputOf}
+use Rattle.b3_check.proofs.ReadLemmas.{digest_whole}
+use Rattle.b3_check.proofs.hashing.Digester.hash_name.Goals as goal
+
+pub returns-clause-digest : goal.returns-clause-digest
+returns-clause-digest g c =
+    let told = g.S.Shelf.told c.args.shelf.now in
+    let left = g.S.Shelf.left c.begin.new.self in
+    let output = c.args.self.now.output in
+    let has : HasContent told c.args.name.now left = search rules in
+    let read = rw c.in-Some.is at c.in_ok-read.ensures.whole in
+    let is_output = subst (λ t. IsOutputOf t left output.mode c.in-Some.output) c.begin.ensures.told read in
+    digest_whole told (g.S.Shelf.is_sure c.args.shelf.now) c.args.name.now left output c.in-Some.output
+    c.take_digest.new.self.digest.items has is_output
+    (λ content is. c.take_digest.ensures.digest ∙ ap (λ (r : Reader). output_bytes r.node output.seek output.length) is)

@@ -1,0 +1,40 @@
+use Rattle.std.proofs.Common.{Err, arith, map, string_bytes}
+use Rattle.std.proofs.lemmas.Result.{err_from_is_err_and}
+use Rattle.b3_core.specs.declared.modes.Mode.{Mode}
+use Rattle.b3_check.specs.Digests.{output_of}
+use Rattle.b3_check.specs.Sums.{names_script}
+use Rattle.b3_check.proofs.RunLemmas.{mode_count, runs_in_mode, runs_surely, stopped_at_once, stopped_in_mode}
+use Rattle.b3_check.proofs.TaskLemmas.{tasks_script-names}
+use Rattle.b3_check.proofs.sum.sum_names.Goals as goal
+
+pub returns-in_err-mode-clause-run : goal.returns-in_err-mode-clause-run
+returns-in_err-mode-clause-run g c =
+    let p = err_from_is_err_and c.from_residual.result c.from_residual.ensures.1 in
+    rw (p.1, p.2) (stopped_in_mode _ c.args.options.now.key _ _ _ _ c.in_err-mode.ensures.found)
+
+pub returns-in_err-worker-clause-run : goal.returns-in_err-worker-clause-run
+returns-in_err-worker-clause-run g c =
+    let p = err_from_is_err_and c.from_residual-in_err-worker.result c.from_residual-in_err-worker.ensures.1 in
+    let options = c.args.options.now in
+    let next = λ (mode : Mode). names_script options.form (output_of mode options) (map string_bytes c.args.names.now)
+    in
+    rw p.1 (runs_in_mode _ options.key c.in_ok-mode.mode next _ _ _ (Err p.0) c.in_ok-mode.ensures.found
+    (stopped_at_once (next c.in_ok-mode.mode) _ p.0 p.2))
+
+pub returns-clause-run : goal.returns-clause-run
+returns-clause-run g c =
+    let options = c.args.options.now in
+    let next = λ (mode : Mode). names_script options.form (output_of mode options) (map string_bytes c.args.names.now)
+    in
+    let run = rw (c.in_ok-worker.ensures.output, c.in_ok-worker.ensures.limits, c.limits.ensures) at c.run.ensures.run
+    in
+    let names = rw (tasks_script-names string_bytes (output_of c.in_ok-mode.mode options) options.form
+    c.args.names.now) at run in
+    runs_in_mode _ options.key c.in_ok-mode.mode next _ _ _ c.run.result c.in_ok-mode.ensures.found names
+
+pub returns-clause-sure : goal.returns-clause-sure
+returns-clause-sure g c = runs_surely _ _ _ _ c.run.result (returns-clause-run g c)
+
+pub returns-in_err-mode-clause-shelf_count : goal.returns-in_err-mode-clause-shelf_count
+returns-in_err-mode-clause-shelf_count g c =
+    omega (arith, mode_count c.args.options.now.key _ _ (Err c.in_err-mode.field-0.0) c.in_err-mode.ensures.found)

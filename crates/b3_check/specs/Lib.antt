@@ -1,0 +1,14 @@
+pub mod Contents
+pub mod Sinks
+pub mod Tallies
+pub mod Faults
+pub mod Options
+pub mod Scripts
+pub mod Runs
+pub mod Digests
+pub mod Sums
+pub mod Checks
+pub mod Tasks
+pub mod Reading
+pub mod MemoryShelves
+pub mod MemorySinks

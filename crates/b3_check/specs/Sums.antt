@@ -1,0 +1,89 @@
+-- The script of a run that writes the digest of each name of a list.
+use Rattle.std.specs.Prelude.{ℕ, ◌==◌, ◌||◌, ◌&&◌, Bool, true, false, if◌then◌else◌, List, [], ◌∷◌, ◌++◌, Option, None, Some, codes, length, map}
+use Rattle.std.specs.String.{string_bytes}
+use Rattle.hex.specs.Hex.{encode_lower}
+use Rattle.b3_core.specs.Modes.{hash_mode, keyed_mode}
+use Rattle.b3_core.specs.declared.modes.Mode.{Mode}
+use Rattle.b3_hash.specs.Derivation.{derived_mode}
+use Rattle.b3_lines.specs.Names.{holds_bad_character}
+use Rattle.b3_lines.specs.Writing.{plain, shown}
+use Rattle.b3_check.specs.declared.fault.RunFault.TheVariants.{ReadFault, BadKey}
+use Rattle.b3_check.specs.declared.hashing.Output.{Output}
+use Rattle.b3_check.specs.declared.options.SumOptions.{SumOptions}
+use Rattle.b3_check.specs.declared.options.Form.{Form}
+use Rattle.b3_check.specs.declared.options.Form.TheVariants.{Named, Bare, Raw}
+use Rattle.b3_check.specs.declared.options.KeyChoice.{KeyChoice}
+use Rattle.b3_check.specs.declared.options.KeyChoice.TheVariants.{Plain, Keyed, Derive}
+use Rattle.b3_check.specs.Tallies.{one_ok, one_failed}
+use Rattle.b3_check.specs.Scripts.{Answer, Script, Report, in_turn}
+use Rattle.b3_check.specs.Scripts.Kind.{Key}
+use Rattle.b3_check.specs.Scripts.Script.{Done, Fail, Say, Ask}
+use Rattle.b3_check.specs.Digests.{digest_script, output_of}
+
+-- a line feed
+abbrev pub line_feed : List ℕ
+line_feed = 10 ∷ []
+
+-- what is said of a name that has no line: its shown form, and why
+abbrev pub complaint : List ℕ → List ℕ → List ℕ
+complaint name why = codes "b3sum: " ++ shown name ++ codes ": " ++ why ++ line_feed
+
+-- a name that gives no digest fails
+abbrev pub failed_report : List ℕ → List ℕ → Report
+failed_report name why = record { out = []; err = complaint name why; tally = one_failed }
+
+-- whether no line can show the name
+abbrev pub is_bad_name : List ℕ → Bool
+is_bad_name name = length name == 0 || holds_bad_character name
+
+-- whether a form shows the name
+abbrev pub shows_name : Form → Bool
+shows_name Named = true
+shows_name Bare = false
+shows_name Raw = false
+
+-- what is written for a digest: a check line, the digits and a line feed, or the bytes alone
+abbrev pub digest_text : Form → List ℕ → List ℕ → List ℕ
+digest_text Named digest name = plain digest name
+digest_text Bare digest name = encode_lower digest ++ line_feed
+digest_text Raw digest name = digest
+
+-- what is said of a name by its digest, or where it cannot be read
+abbrev pub name_report : Form → List ℕ → Option (List ℕ) → Report
+name_report form name None = failed_report name (codes "cannot read")
+name_report form name (Some digest) = record { out = digest_text form digest name; err = []; tally = one_ok }
+
+-- the script of one name, which is asked for unless the form shows a name that no line can show
+abbrev pub name_script : Form → Output → List ℕ → Script
+name_script form output name =
+    if shows_name form && is_bad_name name then Say (failed_report name (codes "bad name")) Done
+    else digest_script output name (name_report form name)
+
+-- the script of a list of names
+abbrev pub names_script : Form → Output → List (List ℕ) → Script
+names_script form output names = in_turn (map (name_script form output) names)
+
+-- the name that keys are read from
+abbrev pub key_name : List ℕ
+key_name = codes "-"
+
+-- what follows the answer to the key: a fault, unless it is 32 bytes
+abbrev pub keyed_script : (Mode → Script) → Answer → Script
+keyed_script next None = Fail ReadFault
+keyed_script next (Some key) = if length key == 32 then next (keyed_mode key) else Fail BadKey
+
+-- the script in the mode of a choice of key, which is asked for first where it is one that is read
+abbrev pub with_mode : KeyChoice → (Mode → Script) → Script
+with_mode Plain next = next hash_mode
+with_mode Keyed next = Ask Key key_name (keyed_script next)
+with_mode (Derive context) next = next (derived_mode (string_bytes context))
+
+-- the script of a run over a list of names
+abbrev pub sum_script : SumOptions → List (List ℕ) → Script
+sum_script options names = with_mode options.key (λ mode. names_script options.form (output_of mode options) names)
+
+-- how many keys are asked for
+abbrev pub keys_asked : KeyChoice → ℕ
+keys_asked Plain = 0
+keys_asked Keyed = 1
+keys_asked (Derive context) = 0

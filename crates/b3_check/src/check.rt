@@ -1,0 +1,176 @@
+//! The run that checks lists of check lines.
+
+ghost use Rattle.std.specs.Prelude.{◌≡◌, ◌+◌, ◌*◌, ◌-◌, ◌^◌, ◌<◌, ◌≤◌, map, string_bytes, length, IfOk, IfErr, if◌then◌else◌};
+ghost use Rattle.b3_check.specs.Checks.{check_script, list_script, lists_script};
+ghost use Rattle.b3_check.specs.Digests.{line_output};
+ghost use Rattle.b3_check.specs.Faults.{is_write_fault};
+ghost use Rattle.b3_check.specs.Options.{CanCheck, check_limits};
+ghost use Rattle.b3_check.specs.Runs.{HasRoom, Ran, RanSurely, Runs, Stopped, scene};
+ghost use Rattle.b3_check.specs.Tallies.{counted};
+
+use crate::desk::{Desk, Table};
+use crate::fault::RunFault;
+use crate::hashing::Output;
+use crate::list_lines::ListLines;
+use crate::lists::ListReader;
+use crate::options::{CheckOptions, Limits};
+use crate::said::Said;
+use crate::shelf::Shelf;
+use crate::sink::Sink;
+use crate::tally::Tally;
+use crate::work::Worker;
+use b3_core::Mode;
+use std::alloc::{AllocError, Global};
+
+/// How many bytes the digest of a check line has.
+const DIGEST_LEN: u32 = 32;
+
+/// Reads lists of check lines, hashes the names in them, and writes to `out` whether each has the
+/// digest of its line; to `err` goes each list that cannot be read, each line that is refused, and at
+/// the end how many lines failed. Answers how many lines are ok, how many failed, and how many lists
+/// cannot be read.
+///
+/// A list is read whole. A run fault ends the run.
+pub fn run_check<R, S: Shelf, O: Sink, E: Sink>(
+    rt: &R,
+    alloc: Global,
+    shelf: &mut S,
+    lists: &[String],
+    out: &mut O,
+    err: &mut E,
+    options: &CheckOptions,
+) -> Result<Tally, RunFault>
+    requires options { CanCheck options.now }
+    requires lists { length lists.now ≤ 2 ^ 30 }
+    requires shelf_failures { S.failures shelf.old < 2 ^ 63 }
+    requires out_failures { O.failures out.old < 2 ^ 63 }
+    requires err_failures { E.failures err.old < 2 ^ 63 }
+
+    // The texts and the tally are those of one list of answers, as many of them CannotRead as the
+    // shelf's count rose.
+    ensures ok { IfOk result (λ tally. Ran (check_script options.now (map string_bytes lists.now))
+        (scene S.Shelf O.Sink E.Sink shelf.old out.old err.old)
+        (scene S.Shelf O.Sink E.Sink shelf.new out.new err.new) tally) }
+
+    // Over a shelf that fails nowhere else they are those of the contents.
+    ensures sure { IfOk result (λ tally. RanSurely (check_script options.now (map string_bytes lists.now))
+        (scene S.Shelf O.Sink E.Sink shelf.old out.old err.old)
+        (scene S.Shelf O.Sink E.Sink shelf.new out.new err.new) tally) }
+
+    // At a fault both sinks gained beginnings of the texts so far, and the fault has its cause.
+    ensures fault { IfErr result (λ fault.
+        Stopped (check_limits options.now) (check_script options.now (map string_bytes lists.now))
+        (scene S.Shelf O.Sink E.Sink shelf.old out.old err.old)
+        (scene S.Shelf O.Sink E.Sink shelf.new out.new err.new) fault) }
+
+    ensures write_fault { O.failures out.new + E.failures err.new
+        ≡ O.failures out.old + E.failures err.old + (if is_write_fault result then 1 else 0) }
+    ensures out_count { O.failures out.old ≤ O.failures out.new }
+    ensures err_count { E.failures err.old ≤ E.failures err.new }
+
+    // A list has at most as many lines as it may have bytes.
+    ensures shelf_count { S.failures shelf.new ≤ S.failures shelf.old + length lists.now * (1 + options.now.largest) }
+    ensures told { S.told shelf.new ≡ S.told shelf.old }
+    ensures still_sure { S.is_sure shelf.new ≡ S.is_sure shelf.old }
+{
+    let mut desk = Table { shelf, out, err };
+    check_lists(alloc, &mut desk, lists, options)
+}
+
+// Checks lists, one after the other, and says how many lines failed.
+fn check_lists<D: Desk>(
+    alloc: Global,
+    desk: &mut D,
+    lists: &[String],
+    options: &CheckOptions,
+) -> Result<Tally, RunFault>
+    requires options { CanCheck options.now }
+    requires lists { length lists.now ≤ 2 ^ 30 }
+    requires room { HasRoom (D.scene desk.old) (length lists.now * (1 + options.now.largest)) }
+    ensures run { Runs (check_limits options.now) (check_script options.now (map string_bytes lists.now))
+        (D.scene desk.old) (D.scene desk.new) result }
+    ensures sure { IfOk result (λ tally. RanSurely (check_script options.now (map string_bytes lists.now))
+        (D.scene desk.old) (D.scene desk.new) tally) }
+    ensures shelf_count { (D.scene desk.new).failures ≤ (D.scene desk.old).failures + length lists.now *
+        (1 + options.now.largest) }
+    ensures loans { D.loans desk.new ≡ D.loans desk.old }
+{
+    let mut checker = Checker::new(alloc, options)?;
+    let tally = checker.check_all(desk, lists)?;
+    let said = Said::warning(alloc, tally.failed)?;
+    desk.say(&said)?;
+    Ok(tally)
+}
+
+/// Checks lists over the same memory.
+#[derive(Drop)]
+struct Checker {
+    alloc: Global,
+    quiet: bool,
+    limits: Limits,
+    reader: ListReader,
+    worker: Worker,
+    ghost largest: { limits.largest ≤ 2 ^ 30 },
+    ghost same_limits: { worker.limits ≡ limits },
+    ghost output: { worker.digester.output ≡ line_output },
+}
+
+impl Checker {
+    /// One that has checked nothing. It takes the room for all reads here.
+    fn new(alloc: Global, options: &CheckOptions) -> Result<Checker, AllocError>
+        requires { CanCheck options.now }
+        ensures quiet { IfOk result (λ checker. checker.quiet ≡ options.now.quiet) }
+        ensures limits { IfOk result (λ checker. checker.limits ≡ check_limits options.now) }
+    {
+        let output = Output {
+            mode: Mode::hash(),
+            seek: 0,
+            length: DIGEST_LEN,
+        };
+        Ok(Checker {
+            alloc,
+            quiet: options.quiet,
+            limits: options.limits(),
+            reader: ListReader::new(alloc)?,
+            worker: Worker::new(alloc, output, options.limits())?,
+        })
+    }
+
+    // Checks lists, one after the other.
+    fn check_all<D: Desk>(&mut self, desk: &mut D, lists: &[String]) -> Result<Tally, RunFault>
+        requires lists { length lists.now ≤ 2 ^ 30 }
+        requires room { HasRoom (D.scene desk.old) (length lists.now * (1 + self.old.limits.largest)) }
+        ensures run { Runs self.old.limits (lists_script self.old.quiet (map string_bytes lists.now))
+            (D.scene desk.old) (D.scene desk.new) result }
+        ensures shelf_count { (D.scene desk.new).failures ≤ (D.scene desk.old).failures + length lists.now *
+            (1 + self.old.limits.largest) }
+        ensures loans { D.loans desk.new ≡ D.loans desk.old }
+    {
+        let mut tally = Tally::none();
+        for list in lists {
+            let one = self.check_list(desk, list.as_str())?;
+            tally.add(&one);
+        }
+        Ok(tally)
+    }
+
+    // Reads a list, and checks its lines.
+    fn check_list<D: Desk>(&mut self, desk: &mut D, name: &str) -> Result<Tally, RunFault>
+        requires { HasRoom (D.scene desk.old) (1 + self.old.limits.largest) }
+        ensures run { Runs self.old.limits (list_script self.old.quiet name.now) (D.scene desk.old)
+            (D.scene desk.new) result }
+        ensures count { IfOk result (λ tally. counted tally ≤ 1 + self.old.limits.largest) }
+        ensures shelf_count { (D.scene desk.new).failures ≤ (D.scene desk.old).failures + (1 + self.old.limits.largest) }
+        ensures loans { D.loans desk.new ≡ D.loans desk.old }
+        ensures quiet { self.new.quiet ≡ self.old.quiet }
+        ensures limits { self.new.limits ≡ self.old.limits }
+    {
+        if !desk.read_list(&mut self.reader, name, self.limits)? {
+            let said = Said::unread_list(self.alloc, name)?;
+            desk.say(&said)?;
+            return Ok(said.tally);
+        }
+        let mut plan = ListLines::new(self.alloc, self.quiet, self.reader.text());
+        self.worker.run(desk, &mut plan)
+    }
+}

@@ -1,0 +1,71 @@
+//! What ends a run.
+
+ghost use Rattle.std.specs.Prelude.{◌≡◌, Some};
+ghost use Rattle.b3_check.specs.Faults.{fault_text};
+ghost use Rattle.b3_check.specs.declared.fault.RunFault.TheVariants.{Memory, WriteFault};
+
+use crate::sink::SinkFailed;
+use std::alloc::AllocError;
+use std::error::Error;
+use std::fmt;
+
+/// What ends a run, with the number of the fault, which is no status: a program that meets any of them
+/// ends with 1.
+#[derive(Clone, Copy, Debug, PartialEq, Eq)]
+pub enum RunFault {
+    /// The key cannot be read.
+    ReadFault = 1,
+    /// A sink failed.
+    WriteFault = 2,
+    /// A growth was refused.
+    Memory = 3,
+    /// The key is not 32 bytes.
+    BadKey = 4,
+    /// A file had not ended after as many reads as it may take, or a list has more bytes than it may
+    /// have.
+    EndlessInput = 5,
+    /// A file that is hashed has more bytes than it may have.
+    TooLarge = 6,
+}
+
+impl RunFault {
+    /// The fault as the program prints it, without a line feed.
+    pub fn text(&self) -> &'static str
+        ensures { result.now ≡ fault_text self.now }
+    {
+        match self {
+            RunFault::ReadFault => "b3sum: cannot read the key",
+            RunFault::WriteFault => "b3sum: cannot write",
+            RunFault::Memory => "b3sum: out of memory",
+            RunFault::BadKey => "b3sum: the key is not 32 bytes",
+            RunFault::EndlessInput => "b3sum: endless input",
+            RunFault::TooLarge => "b3sum: input too large",
+        }
+    }
+}
+
+impl fmt::Display for RunFault {
+    ghost output = { λ fault. Some (fault_text fault) };
+
+    fn fmt<W: fmt::Write>(&self, f: &mut fmt::Formatter<W>) -> fmt::Result {
+        f.write_str(self.text())
+    }
+}
+
+impl Error for RunFault {}
+
+impl From<AllocError> for RunFault {
+    ghost from_gives = { λ _ fault. fault ≡ Memory };
+
+    fn from(_refused: AllocError) -> RunFault {
+        Self::Memory
+    }
+}
+
+impl From<SinkFailed> for RunFault {
+    ghost from_gives = { λ _ fault. fault ≡ WriteFault };
+
+    fn from(_failed: SinkFailed) -> RunFault {
+        Self::WriteFault
+    }
+}

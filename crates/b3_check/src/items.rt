@@ -1,0 +1,111 @@
+//! What a run does, item after item.
+
+ghost use Rattle.std.specs.Prelude.{◌≡◌, ℕ, Bool, List, [], ◌∷◌, true, false, map, string_bytes, IfOk, IfSome, MatchOption};
+ghost use Rattle.b3_check.specs.Sums.{is_bad_name, shows_name};
+ghost use Rattle.b3_check.specs.Tasks.{IsFit, IsFitItem, Task, bytes_of, len_of, name_asked, name_task, report_of, subject_report, task_of};
+
+use crate::options::Form;
+use crate::said::Said;
+use b3_lines::{Line, holds_bad_character};
+use std::alloc::{AllocError, Global};
+
+/// What a run does next.
+#[derive(Drop)]
+pub enum Item<'a> {
+    /// Says this.
+    Say(Said),
+    /// Asks for a name, and says what its digest gives.
+    Ask(Subject<'a>),
+}
+
+/// A name that is asked for, and what its digest is for.
+#[derive(Drop)]
+pub enum Subject<'a> {
+    /// The digest is written in this form.
+    Name(Form, &'a str),
+    /// The digest is compared with that of the line. Where the first is set, nothing is said if they are
+    /// equal.
+    Line(bool, Line),
+}
+
+impl Subject<'_> {
+    /// The name that is asked for.
+    pub fn name(&self) -> &str
+        ensures { result.now ≡ name_asked self.now }
+    {
+        match self {
+            Subject::Name(_, name) => name,
+            Subject::Line(_, line) => line.name.as_str(),
+        }
+    }
+
+    /// What this digest gives, or none: the name cannot be read.
+    pub fn said(&self, alloc: Global, digest: Option<&[u8]>) -> Result<Said, AllocError>
+        requires { IsFit (len_of digest) self.now }
+        ensures { IfOk result (λ said. report_of said ≡ subject_report self.now (bytes_of digest.entry)) }
+    {
+        match self {
+            Subject::Name(form, name) => Said::of_name(alloc, *form, name, digest),
+            Subject::Line(quiet, line) => Said::of_line(alloc, *quiet, line, digest),
+        }
+    }
+}
+
+/// Items, one after the other.
+pub trait Plan<'a> {
+    /// What is left to do.
+    ghost left: { Self → List Task };
+
+    /// Whether the items can be said of digests of so many bytes.
+    ghost fits: { Self → ℕ → Bool };
+
+    /// The next item.
+    fn next(&mut self) -> Result<Option<Item<'a>>, AllocError>
+        ensures next { IfOk result (λ next. MatchOption next (left self.old ≡ [])
+            (λ item. left self.old ≡ task_of item ∷ left self.new)) }
+        ensures fit { IfOk result (λ next. IfSome next (λ item.
+            (len : ℕ) → fits self.old len ≡ true → IsFitItem len item)) }
+        ensures still_fits { (len : ℕ) → fits self.new len ≡ fits self.old len };
+}
+
+/// The digest of each name.
+#[derive(Drop)]
+pub struct Names<'a> {
+    pub alloc: Global,
+    pub form: Form,
+    pub names: &'a [String],
+}
+
+impl<'a> Plan<'a> for Names<'a> {
+    ghost left = { λ plan. map (λ name. name_task plan.form (string_bytes name)) plan.names.now };
+
+    ghost fits = { λ _ _. true };
+
+    fn next(&mut self) -> Result<Option<Item<'a>>, AllocError> {
+        let Some((name, rest)) = self.names.split_first() else {
+            return Ok(None);
+        };
+        self.names = rest;
+        let name = name.as_str();
+        if self.form.shows_name() && is_bad_name(name) {
+            return Ok(Some(Item::Say(Said::failed(self.alloc, name, "bad name")?)));
+        }
+        Ok(Some(Item::Ask(Subject::Name(self.form, name))))
+    }
+}
+
+impl Form {
+    // Whether the form shows the name.
+    fn shows_name(self) -> bool
+        ensures { result ≡ shows_name self }
+    {
+        matches!(self, Form::Named)
+    }
+}
+
+// Whether no line can show the name.
+fn is_bad_name(name: &str) -> bool
+    ensures { result ≡ is_bad_name name.now }
+{
+    name.is_empty() || holds_bad_character(name.as_bytes())
+}

@@ -1,0 +1,100 @@
+//! The key of a keyed hash, as it is read.
+
+ghost use Rattle.std.specs.Prelude.{◌≡◌, ◌≢◌, ◌+◌, ◌-◌, ◌^◌, ◌<◌, ◌≤◌, ◌++◌, [], take, length, false, IsTrue, IsSome, IsOk, IfOk, IfErr, MatchOption, is_err, is_none, if◌then◌else◌};
+ghost use Rattle.b3_core.specs.Modes.{keyed_mode};
+ghost use Rattle.b3_check.specs.Reading.{key_answer, key_bytes};
+ghost use Rattle.b3_check.specs.Scripts.{AgreesWith};
+ghost use Rattle.b3_check.specs.Scripts.Kind.{Key};
+ghost use Rattle.b3_check.specs.Sums.{key_name};
+ghost use Rattle.b3_check.specs.declared.fault.RunFault.TheVariants.{BadKey};
+
+use crate::fault::RunFault;
+use crate::shelf::{CannotRead, Shelf};
+use b3_core::Mode;
+
+/// The name that a key is read from.
+const KEY_NAME: &str = "-";
+
+/// How many bytes a key has.
+const KEY_LEN: usize = 32;
+
+/// How many bytes of a key are read: one more than it may have.
+const READ_LEN: usize = KEY_LEN + 1;
+
+/// What was read of a key: all of it, or its first 33 bytes.
+#[derive(Clone, Copy)]
+pub struct KeyRead {
+    room: [u8; READ_LEN],
+    len: usize,
+}
+
+impl KeyRead {
+    /// Reads the key, or answers nothing where it cannot be read. Each read asks for what is missing.
+    pub fn read<S: Shelf>(shelf: &mut S) -> Option<KeyRead>
+        requires { S.failures shelf.old < 2 ^ 64 - 1 }
+        ensures answer { AgreesWith (S.told shelf.old) (S.is_sure shelf.old) Key key_name (key_answer result) }
+        ensures count { S.failures shelf.new ≡ S.failures shelf.old + (if is_none result then 1 else 0) }
+        ensures told { S.told shelf.new ≡ S.told shelf.old }
+        ensures still_sure { S.is_sure shelf.new ≡ S.is_sure shelf.old }
+    {
+        if shelf.begin(KEY_NAME).is_err() {
+            return None;
+        }
+        read_rest(shelf)
+    }
+
+    /// The mode of the key, which is to be 32 bytes.
+    pub fn mode(&self) -> Result<Mode, RunFault>
+        ensures ok { IfOk result (λ mode. (length (key_bytes self.now) ≡ 32)
+            × (mode ≡ keyed_mode (key_bytes self.now))) }
+        ensures err { IfErr result (λ fault. (length (key_bytes self.now) ≢ 32) × (fault ≡ BadKey)) }
+    {
+        if self.len != KEY_LEN {
+            return Err(RunFault::BadKey);
+        }
+        let mut key = [0; KEY_LEN];
+        key.copy_from_slice(&self.room[..KEY_LEN]);
+        Ok(Mode::keyed(&key))
+    }
+}
+
+// Reads the key from the file that is begun.
+fn read_rest<S: Shelf>(shelf: &mut S) -> Option<KeyRead>
+    requires { S.failures shelf.old < 2 ^ 64 - 1 }
+    ensures answer { MatchOption result (S.is_sure shelf.old ≡ false)
+        (λ key. IsSome (S.told shelf.old) → take 33 (S.left shelf.old) ≡ key_bytes key) }
+    ensures count { S.failures shelf.new ≡ S.failures shelf.old + (if is_none result then 1 else 0) }
+    ensures told { S.told shelf.new ≡ S.told shelf.old }
+    ensures still_sure { S.is_sure shelf.new ≡ S.is_sure shelf.old }
+{
+    let mut room = [0; READ_LEN];
+    let mut len = 0;
+    while len < READ_LEN {
+        let Ok(count) = read_at(shelf, &mut room, len) else {
+            return None;
+        };
+        if count == 0 {
+            return Some(KeyRead { room, len });
+        }
+        len += count;
+    }
+    Some(KeyRead { room, len })
+}
+
+// One read into the room behind the first `start` bytes.
+fn read_at<S: Shelf>(shelf: &mut S, room: &mut [u8], start: usize) -> Result<usize, CannotRead>
+    requires room { start < length room.old }
+    requires count { S.failures shelf.old < 2 ^ 64 - 1 }
+    ensures len { length room.new ≡ length room.old }
+    ensures within { IfOk result (λ n. start + n ≤ length room.old) }
+    ensures bytes { IsSome (S.told shelf.old) → IfOk result (λ n.
+        take start room.old ++ S.left shelf.old ≡ take (start + n) room.new ++ S.left shelf.new) }
+    ensures end { IsSome (S.told shelf.old) → IfOk result (λ n. n ≡ 0 → S.left shelf.new ≡ []) }
+    ensures sure { IsTrue (S.is_sure shelf.old) → IsOk result }
+    ensures count { S.failures shelf.new ≡ S.failures shelf.old + (if is_err result then 1 else 0) }
+    ensures told { S.told shelf.new ≡ S.told shelf.old }
+    ensures still_sure { S.is_sure shelf.new ≡ S.is_sure shelf.old }
+{
+    let count = shelf.read(&mut room[start..])?;
+    Ok(count)
+}

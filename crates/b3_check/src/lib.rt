@@ -1,0 +1,39 @@
+//! Engines that write and check BLAKE3 check lines: what a run reads from a shelf of named files, and
+//! what it writes to its two sinks.
+#![tactic(auto)]
+
+mod check;
+mod desk;
+mod fault;
+mod hashing;
+mod items;
+mod judging;
+mod key;
+mod list_lines;
+mod lists;
+mod memory_shelf;
+mod memory_sink;
+mod options;
+mod room;
+mod said;
+mod shelf;
+mod sink;
+mod sum;
+mod tally;
+mod work;
+mod writing;
+
+pub use check::run_check;
+pub use fault::RunFault;
+pub use judging::{Answer, Verdict, judge};
+pub use memory_shelf::MemoryShelf;
+pub use memory_sink::MemorySink;
+pub use options::{CheckOptions, Form, KeyChoice, MAX_OUTPUT_LEN, MAX_WORKERS, SumOptions};
+pub use shelf::{CannotRead, Shelf};
+pub use sink::{Sink, SinkFailed};
+pub use sum::run_sum;
+pub use tally::Tally;
+pub use writing::write_all;
+
+#[cfg(test)]
+mod tests;

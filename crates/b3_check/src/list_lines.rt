@@ -1,0 +1,60 @@
+//! The lines of a list, as items.
+
+ghost use Rattle.std.specs.Prelude.{◌≡◌, ◌+◌, ◌^◌, ◌≤◌, ◌==◌, All, true, length, map};
+ghost use Rattle.b3_lines.specs.Lines.{IsWithin, line_at, lines_of};
+ghost use Rattle.b3_check.specs.Tasks.{line_tasks};
+
+use crate::items::{Item, Plan, Subject};
+use crate::said::Said;
+use b3_lines::{LineFault, Lines, lines, read_line};
+use std::alloc::{AllocError, Global};
+
+/// The check of each line of a list.
+#[derive(Drop)]
+pub struct ListLines<'t> {
+    alloc: Global,
+    quiet: bool,
+    text: &'t [u8],
+    places: Lines<'t>,
+    /// The number of the next line.
+    number: u64,
+    ghost within: { All (IsWithin text.now) places },
+    ghost numbered: { number + length places ≤ 2 ^ 32 },
+}
+
+impl<'t> ListLines<'t> {
+    /// The lines of this text, the first of which is line 1. `quiet` says nothing of a good one.
+    pub fn new(alloc: Global, quiet: bool, text: &'t [u8]) -> ListLines<'t>
+        requires { length text.now ≤ 2 ^ 30 }
+        ensures lines { ⟦<ListLines<'t> as Plan<'t>>⟧.left result ≡ line_tasks quiet 1 (lines_of text.now) }
+        ensures few { length (⟦<ListLines<'t> as Plan<'t>>⟧.left result) ≤ length text.now }
+        ensures fits { ⟦<ListLines<'t> as Plan<'t>>⟧.fits result 32 ≡ true }
+    {
+        ListLines {
+            alloc,
+            quiet,
+            text,
+            places: lines(text),
+            number: 1,
+        }
+    }
+}
+
+impl<'t> Plan<'t> for ListLines<'t> {
+    ghost left = { λ plan. line_tasks plan.quiet plan.number (map (line_at plan.text.now) plan.places) };
+
+    ghost fits = { λ _ len. len == 32 };
+
+    fn next(&mut self) -> Result<Option<Item<'t>>, AllocError> {
+        let Some((start, end)) = self.places.next() else {
+            return Ok(None);
+        };
+        let number = self.number;
+        self.number += 1;
+        match read_line(self.alloc, &self.text[start..end]) {
+            Ok(line) => Ok(Some(Item::Ask(Subject::Line(self.quiet, line)))),
+            Err(LineFault::Memory) => Err(AllocError),
+            Err(fault) => Ok(Some(Item::Say(Said::refused(self.alloc, number, fault)?))),
+        }
+    }
+}

@@ -1,0 +1,98 @@
+//! A list of check lines, as it is read.
+
+ghost use Rattle.std.specs.Prelude.{◌≡◌, ◌-◌, ◌+◌, ◌^◌, ◌<◌, ◌≤◌, [], true, false, IsSome, IfOk, IfErr, OnOk, length, vec_len};
+ghost use Rattle.b3_check.specs.Faults.{is_write_fault};
+ghost use Rattle.b3_check.specs.Reading.{IsFaultOfRest, IsReadingFault, found_if, unread_count};
+ghost use Rattle.b3_check.specs.Scripts.{AgreesWith};
+ghost use Rattle.b3_check.specs.Scripts.Kind.{Listed};
+
+use crate::fault::RunFault;
+use crate::options::Limits;
+use crate::room::{READ_LEN, zeros};
+use crate::shelf::Shelf;
+use std::alloc::{AllocError, Global};
+
+/// Reads lists whole, one after the other, over the same memory.
+#[derive(Drop)]
+pub struct ListReader {
+    room: Vec<u8>,
+    text: Vec<u8>,
+    ghost has_room: { 0 < vec_len room },
+}
+
+impl ListReader {
+    /// A reader that has read nothing. It takes the room for its reads here.
+    pub fn new(alloc: Global) -> Result<ListReader, AllocError> {
+        Ok(ListReader {
+            room: zeros(alloc, READ_LEN)?,
+            text: Vec::new(alloc),
+        })
+    }
+
+    /// The text of the list that was read last.
+    pub fn text(&self) -> &[u8]
+        ensures { result.now ≡ self.now.text.items }
+    {
+        self.text.as_slice()
+    }
+
+    /// Reads the list of this name, and answers whether it can be read. A run fault comes where it has
+    /// more bytes than `limits` allow, or has not ended after as many reads.
+    pub fn read<S: Shelf>(
+        &mut self,
+        shelf: &mut S,
+        name: &str,
+        limits: Limits,
+    ) -> Result<bool, RunFault>
+        requires { S.failures shelf.old < 2 ^ 64 - 1 }
+        ensures answer { IfOk result (λ whole. AgreesWith (S.told shelf.old) (S.is_sure shelf.old) Listed name.now
+            (found_if whole self.new.text.items)) }
+        ensures fault { IfErr result (λ fault. IsReadingFault fault (S.told shelf.old) limits Listed name.now) }
+        ensures no_sink { is_write_fault result ≡ false }
+        ensures largest { OnOk result (vec_len self.new.text ≤ limits.largest) }
+        ensures count { S.failures shelf.new ≡ S.failures shelf.old + unread_count result }
+        ensures told { S.told shelf.new ≡ S.told shelf.old }
+        ensures still_sure { S.is_sure shelf.new ≡ S.is_sure shelf.old }
+    {
+        self.text.clear();
+        if shelf.begin(name).is_err() {
+            return Ok(false);
+        }
+        read_rest(shelf, self.room.as_mut_slice(), &mut self.text, limits)
+    }
+}
+
+// Reads what is left of the list that is begun.
+fn read_rest<S: Shelf>(
+    shelf: &mut S,
+    room: &mut [u8],
+    text: &mut Vec<u8>,
+    limits: Limits,
+) -> Result<bool, RunFault>
+    requires count { S.failures shelf.old < 2 ^ 64 - 1 }
+    requires room { 0 < length room.old }
+    requires empty { text.old.items ≡ [] }
+    ensures whole { result ≡ Ok true → IsSome (S.told shelf.old) → S.left shelf.old ≡ text.new.items }
+    ensures sure { result ≡ Ok false → S.is_sure shelf.old ≡ false }
+    ensures fault { IfErr result (λ fault. IsFaultOfRest fault (S.told shelf.old) limits Listed (S.left shelf.old)) }
+    ensures no_sink { is_write_fault result ≡ false }
+    ensures largest { OnOk result (vec_len text.new ≤ limits.largest) }
+    ensures room { length room.new ≡ length room.old }
+    ensures count { S.failures shelf.new ≡ S.failures shelf.old + unread_count result }
+    ensures told { S.told shelf.new ≡ S.told shelf.old }
+    ensures still_sure { S.is_sure shelf.new ≡ S.is_sure shelf.old }
+{
+    for _turn in 0..limits.turns {
+        let Ok(count) = shelf.read(room) else {
+            return Ok(false);
+        };
+        if count == 0 {
+            return Ok(true);
+        }
+        if count as u64 > limits.largest - text.len() as u64 {
+            return Err(RunFault::EndlessInput);
+        }
+        text.extend_from_slice(&room[..count])?;
+    }
+    Err(RunFault::EndlessInput)
+}

@@ -1,0 +1,97 @@
+//! What is asked of a run.
+
+ghost use Rattle.std.specs.Prelude.{◌≡◌};
+ghost use Rattle.b3_check.specs.Options.{check_limits, limits_of};
+
+/// The greatest number of output bytes that a run writes of a digest.
+pub const MAX_OUTPUT_LEN: u32 = 1_048_576;
+
+/// The greatest number of workers of a run.
+pub const MAX_WORKERS: u32 = 64;
+
+/// What keys the hash.
+#[derive(Debug, Drop, PartialEq, Eq)]
+pub enum KeyChoice {
+    /// No key.
+    Plain,
+    /// The 32 bytes of the name `-`, which is read before all names.
+    Keyed,
+    /// The content is key material, under this context.
+    Derive(String),
+}
+
+/// What is written for a digest.
+#[derive(Clone, Copy, Debug, PartialEq, Eq)]
+pub enum Form {
+    /// A check line: the digits and the name.
+    Named,
+    /// The digits and a line feed.
+    Bare,
+    /// The bytes alone.
+    Raw,
+}
+
+/// How a run hashes, and what it writes.
+#[derive(Debug, Drop, PartialEq, Eq)]
+pub struct SumOptions {
+    /// What keys the hash.
+    pub key: KeyChoice,
+    /// The first byte of the output that is written.
+    pub seek: u64,
+    /// How many bytes of the output are written.
+    pub length: u32,
+    /// What is written for a digest.
+    pub form: Form,
+    /// How many workers may hash. One does so far.
+    pub workers: u32,
+    /// How many reads a file may take.
+    pub turns: u64,
+    /// How many bytes a file may have.
+    pub largest: u64,
+}
+
+/// How a run checks, and what it writes.
+#[derive(Clone, Copy, Debug, PartialEq, Eq)]
+pub struct CheckOptions {
+    /// Whether nothing is written for a name whose digest is that of its line.
+    pub quiet: bool,
+    /// How many workers may hash. One does so far.
+    pub workers: u32,
+    /// How many reads a file may take.
+    pub turns: u64,
+    /// How many bytes a file or a list may have.
+    pub largest: u64,
+}
+
+/// How much of a file is read.
+#[derive(Clone, Copy, Debug, PartialEq, Eq)]
+pub struct Limits {
+    /// How many reads a file may take.
+    pub turns: u64,
+    /// How many bytes a file may have.
+    pub largest: u64,
+}
+
+impl SumOptions {
+    // How much of a file is read.
+    pub(crate) fn limits(&self) -> Limits
+        ensures { result ≡ limits_of self.now }
+    {
+        Limits {
+            turns: self.turns,
+            largest: self.largest,
+        }
+    }
+}
+
+impl CheckOptions {
+    // How much of a file is read.
+    pub(crate) fn limits(&self) -> Limits
+        ensures { result ≡ check_limits self.now }
+    {
+        Limits {
+            turns: self.turns,
+            largest: self.largest,
+        }
+    }
+}

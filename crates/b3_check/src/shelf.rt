@@ -1,0 +1,52 @@
+ghost use Rattle.std.specs.Prelude.{◌≡◌, ℕ, ◌+◌, ◌-◌, ◌^◌, ◌<◌, ◌≤◌, ◌&&◌, Bool, false, IsTrue, List, take, length, Option, IsSome, IsOk, IsErr, OnOk, IfOk, is_ok, is_err, if◌then◌else◌};
+ghost use Rattle.b3_check.specs.Contents.{Contents, Gives, HasContent, IsMissing};
+
+/// A name cannot be read, or the rest of it cannot.
+#[derive(Clone, Copy, Debug, PartialEq, Eq)]
+pub struct CannotRead;
+
+/// Named files, of which one at a time is read from its beginning to its end.
+///
+/// A shelf counts its failures. It may tell its contents, and then gives just these; and it may tell
+/// besides that it fails at a name that is not there and nowhere else.
+pub trait Shelf {
+    /// How many calls have failed.
+    ghost failures: { Self → ℕ };
+
+    /// The content of each name, where the shelf tells it.
+    ghost told: { Self → Option Contents };
+
+    /// Whether only a name that is not there fails.
+    ghost is_sure: { Self → Bool };
+
+    /// Whether a file is begun, and no call has failed since.
+    ghost is_begun: { Self → Bool };
+
+    /// What is left of the file that is begun, where the shelf tells its contents.
+    ghost left: { Self → List ℕ };
+
+    /// Puts the shelf at the beginning of the file of this name.
+    fn begin(&mut self, name: &str) -> Result<(), CannotRead>
+        requires { failures self.old < 2 ^ 64 - 1 }
+        ensures count { failures self.new ≡ failures self.old + (if is_err result then 1 else 0) }
+        ensures begun { is_begun self.new ≡ is_ok result }
+        ensures content { OnOk result (HasContent (told self.old) name.now (left self.new)) }
+        ensures sure { IsErr result → IsTrue (is_sure self.old) → IsMissing (told self.old) name.now }
+        ensures told { told self.new ≡ told self.old }
+        ensures still_sure { is_sure self.new ≡ is_sure self.old };
+
+    /// Gives the next bytes of the file: how many of them are in `room`, at least one, or 0 at the
+    /// file's end. Where no file is begun it gives none.
+    fn read(&mut self, room: &mut [u8]) -> Result<usize, CannotRead>
+        requires count { failures self.old < 2 ^ 64 - 1 }
+        requires room { 0 < length room.old }
+        ensures count { failures self.new ≡ failures self.old + (if is_err result then 1 else 0) }
+        ensures begun { is_begun self.new ≡ (is_begun self.old && is_ok result) }
+        ensures within { IfOk result (λ n. n ≤ length room.old) }
+        ensures bytes { IsSome (told self.old)
+            → IfOk result (λ n. Gives (left self.old) (take n room.new) (left self.new)) }
+        ensures not_begun { is_begun self.old ≡ false → IfOk result (λ n. n ≡ 0) }
+        ensures sure { IsTrue (is_sure self.old) → IsOk result }
+        ensures told { told self.new ≡ told self.old }
+        ensures still_sure { is_sure self.new ≡ is_sure self.old };
+}

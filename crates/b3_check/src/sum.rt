@@ -1,0 +1,121 @@
+//! The run that writes the digest of each name.
+
+ghost use Rattle.std.specs.Prelude.{◌≡◌, ◌+◌, ◌-◌, ◌^◌, ◌<◌, ◌≤◌, map, string_bytes, length, IfOk, IfErr, if◌then◌else◌};
+ghost use Rattle.b3_check.specs.Faults.{is_write_fault};
+ghost use Rattle.b3_check.specs.Options.{CanRun, limits_of};
+ghost use Rattle.b3_check.specs.Reading.{FindsMode};
+ghost use Rattle.b3_check.specs.Runs.{HasRoom, Ran, RanSurely, Runs, Stopped, scene};
+ghost use Rattle.b3_check.specs.Sums.{keys_asked, sum_script};
+ghost use Rattle.b3_check.specs.declared.options.Form.TheVariants.{Raw};
+
+use crate::desk::{Desk, Table};
+use crate::fault::RunFault;
+use crate::hashing::Output;
+use crate::items::Names;
+use crate::options::{KeyChoice, SumOptions};
+use crate::shelf::Shelf;
+use crate::sink::Sink;
+use crate::tally::Tally;
+use crate::work::Worker;
+use b3_core::Mode;
+use b3_hash::derive_mode;
+use std::alloc::Global;
+
+/// Writes the digest of each name to `out`, and to `err` a complaint for each name that has none, and
+/// answers how many names are ok and how many failed.
+///
+/// A digest is `length` bytes of the output from place `seek` on (BLAKE3 (2020), 2.6). With the key
+/// `Keyed` the name `-` is read first, at most 33 bytes of it. A run fault ends the run.
+pub fn run_sum<R, S: Shelf, O: Sink, E: Sink>(
+    rt: &R,
+    alloc: Global,
+    shelf: &mut S,
+    names: &[String],
+    out: &mut O,
+    err: &mut E,
+    options: &SumOptions,
+) -> Result<Tally, RunFault>
+    requires options { CanRun options.now }
+    requires names { length names.now ≤ 2 ^ 30 }
+    requires raw { options.now.form ≡ Raw → length names.now ≡ 1 }
+    requires shelf_failures { S.failures shelf.old < 2 ^ 63 }
+    requires out_failures { O.failures out.old < 2 ^ 63 }
+    requires err_failures { E.failures err.old < 2 ^ 63 }
+
+    // The texts and the tally are those of one list of answers, as many of them CannotRead as the
+    // shelf's count rose.
+    ensures ok { IfOk result (λ tally. Ran (sum_script options.now (map string_bytes names.now))
+        (scene S.Shelf O.Sink E.Sink shelf.old out.old err.old)
+        (scene S.Shelf O.Sink E.Sink shelf.new out.new err.new) tally) }
+
+    // Over a shelf that fails nowhere else they are those of the contents.
+    ensures sure { IfOk result (λ tally. RanSurely (sum_script options.now (map string_bytes names.now))
+        (scene S.Shelf O.Sink E.Sink shelf.old out.old err.old)
+        (scene S.Shelf O.Sink E.Sink shelf.new out.new err.new) tally) }
+
+    // At a fault both sinks gained beginnings of the texts so far, and the fault has its cause.
+    ensures fault { IfErr result (λ fault.
+        Stopped (limits_of options.now) (sum_script options.now (map string_bytes names.now))
+        (scene S.Shelf O.Sink E.Sink shelf.old out.old err.old)
+        (scene S.Shelf O.Sink E.Sink shelf.new out.new err.new) fault) }
+
+    ensures write_fault { O.failures out.new + E.failures err.new
+        ≡ O.failures out.old + E.failures err.old + (if is_write_fault result then 1 else 0) }
+    ensures out_count { O.failures out.old ≤ O.failures out.new }
+    ensures err_count { E.failures err.old ≤ E.failures err.new }
+    ensures shelf_count { S.failures shelf.new ≤ S.failures shelf.old + keys_asked options.now.key + length names.now }
+    ensures told { S.told shelf.new ≡ S.told shelf.old }
+    ensures still_sure { S.is_sure shelf.new ≡ S.is_sure shelf.old }
+{
+    let mut desk = Table { shelf, out, err };
+    sum_names(alloc, &mut desk, names, options)
+}
+
+// Writes the digest of each name.
+fn sum_names<D: Desk>(
+    alloc: Global,
+    desk: &mut D,
+    names: &[String],
+    options: &SumOptions,
+) -> Result<Tally, RunFault>
+    requires options { CanRun options.now }
+    requires names { length names.now ≤ 2 ^ 30 }
+    requires room { HasRoom (D.scene desk.old) (1 + length names.now) }
+    ensures run { Runs (limits_of options.now) (sum_script options.now (map string_bytes names.now)) (D.scene desk.old)
+        (D.scene desk.new) result }
+    ensures sure { IfOk result (λ tally. RanSurely (sum_script options.now (map string_bytes names.now))
+        (D.scene desk.old) (D.scene desk.new) tally) }
+    ensures shelf_count { (D.scene desk.new).failures ≤ (D.scene desk.old).failures + keys_asked options.now.key
+        + length names.now }
+    ensures loans { D.loans desk.new ≡ D.loans desk.old }
+{
+    let mode = find_mode(desk, &options.key)?;
+    let output = Output {
+        mode,
+        seek: options.seek,
+        length: options.length,
+    };
+    let mut worker = Worker::new(alloc, output, options.limits())?;
+    let mut plan = Names {
+        alloc,
+        form: options.form,
+        names,
+    };
+    worker.run(desk, &mut plan)
+}
+
+// The mode of a choice of key, which may have to be read.
+fn find_mode<D: Desk>(desk: &mut D, key: &KeyChoice) -> Result<Mode, RunFault>
+    requires { HasRoom (D.scene desk.old) 1 }
+    ensures found { FindsMode key.now (D.scene desk.old) (D.scene desk.new) result }
+    ensures loans { D.loans desk.new ≡ D.loans desk.old }
+{
+    match key {
+        KeyChoice::Plain => Ok(Mode::hash()),
+        KeyChoice::Derive(context) => Ok(derive_mode(context.as_str())),
+        KeyChoice::Keyed => match desk.read_key() {
+            Some(read) => read.mode(),
+            None => Err(RunFault::ReadFault),
+        },
+    }
+}

@@ -1,0 +1,158 @@
+// Devices that give and take one byte a call.
+
+ghost use Rattle.std.specs.Prelude.{◌≡◌, ℕ, [], false, None, Some};
+
+use crate::shelf::{CannotRead, Shelf};
+use crate::sink::{Sink, SinkFailed};
+use std::alloc::Global;
+
+/// Gives one byte a read of the same content under each name.
+#[derive(Drop)]
+pub struct OneByteShelf<'a> {
+    content: &'a [u8],
+    place: usize,
+    is_begun: bool,
+    failures: u64,
+}
+
+impl<'a> OneByteShelf<'a> {
+    pub fn new(content: &'a [u8]) -> OneByteShelf<'a>
+        ensures { ⟦<OneByteShelf<'a> as Shelf>⟧.failures result ≡ 0 }
+    {
+        OneByteShelf {
+            content,
+            place: 0,
+            is_begun: false,
+            failures: 0,
+        }
+    }
+}
+
+impl Shelf for OneByteShelf<'_> {
+    ghost failures = { λ shelf. shelf.failures };
+
+    ghost told = { λ _. None };
+
+    ghost is_sure = { λ _. false };
+
+    ghost is_begun = { λ shelf. shelf.is_begun };
+
+    ghost left = { λ _. [] };
+
+    fn begin(&mut self, _name: &str) -> Result<(), CannotRead> {
+        self.place = 0;
+        self.is_begun = true;
+        Ok(())
+    }
+
+    fn read(&mut self, room: &mut [u8]) -> Result<usize, CannotRead> {
+        if !self.is_begun {
+            return Ok(0);
+        }
+        match self.content.get(self.place) {
+            Some(byte) => {
+                room[0] = *byte;
+                self.place += 1;
+                Ok(1)
+            }
+            None => Ok(0),
+        }
+    }
+}
+
+/// Takes one byte a write, and fails once it has taken as many as it may.
+#[derive(Drop)]
+pub struct OneByteSink {
+    pub bytes: Vec<u8>,
+    most: usize,
+    failures: u64,
+}
+
+impl OneByteSink {
+    pub fn new(alloc: Global, most: usize) -> OneByteSink
+        ensures { ⟦<OneByteSink as Sink>⟧.failures result ≡ 0 }
+    {
+        OneByteSink {
+            bytes: Vec::new(alloc),
+            most,
+            failures: 0,
+        }
+    }
+}
+
+impl Sink for OneByteSink {
+    ghost failures = { λ sink. sink.failures };
+
+    ghost held = { λ sink. Some sink.bytes.items };
+
+    fn write(&mut self, bytes: &[u8]) -> Result<usize, SinkFailed> {
+        let Some(byte) = bytes.first() else {
+            return Ok(0);
+        };
+        if self.bytes.len() >= self.most || self.bytes.push(*byte).is_err() {
+            self.failures += 1;
+            return Err(SinkFailed);
+        }
+        Ok(1)
+    }
+}
+
+/// Gives the same content under each name, four bytes a read, and fails at one read.
+#[derive(Drop)]
+pub struct FailingShelf<'a> {
+    content: &'a [u8],
+    place: usize,
+    reads_before: u64,
+    is_begun: bool,
+    failures: u64,
+}
+
+impl<'a> FailingShelf<'a> {
+    pub fn new(content: &'a [u8], reads_before: u64) -> FailingShelf<'a>
+        ensures { ⟦<FailingShelf<'a> as Shelf>⟧.failures result ≡ 0 }
+    {
+        FailingShelf {
+            content,
+            place: 0,
+            reads_before,
+            is_begun: false,
+            failures: 0,
+        }
+    }
+}
+
+impl Shelf for FailingShelf<'_> {
+    ghost failures = { λ shelf. shelf.failures };
+
+    ghost told = { λ _. None };
+
+    ghost is_sure = { λ _. false };
+
+    ghost is_begun = { λ shelf. shelf.is_begun };
+
+    ghost left = { λ _. [] };
+
+    fn begin(&mut self, _name: &str) -> Result<(), CannotRead> {
+        self.place = 0;
+        self.is_begun = true;
+        Ok(())
+    }
+
+    fn read(&mut self, room: &mut [u8]) -> Result<usize, CannotRead> {
+        if !self.is_begun {
+            return Ok(0);
+        }
+        if self.reads_before == 0 {
+            self.reads_before = u64::MAX;
+            self.is_begun = false;
+            self.failures += 1;
+            return Err(CannotRead);
+        }
+        self.reads_before -= 1;
+        let rest = &self.content[self.place.min(self.content.len())..];
+        let count = rest.len().min(room.len()).min(4);
+        room[..count].copy_from_slice(&rest[..count]);
+        self.place += count;
+        Ok(count)
+    }
+}

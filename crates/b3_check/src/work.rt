@@ -1,0 +1,106 @@
+//! The loop that both engines go through.
+
+ghost use Rattle.std.specs.Prelude.{◌≡◌, ◌+◌, ◌-◌, ◌^◌, ◌<◌, ◌≤◌, true, length, IfOk};
+ghost use Rattle.b3_check.specs.Runs.{HasRoom, Runs};
+ghost use Rattle.b3_check.specs.Tallies.{counted};
+ghost use Rattle.b3_check.specs.Tasks.{IsFit, IsFitItem, Gives, name_asked, subject_report, task_of, task_script, tasks_script};
+
+use crate::desk::Desk;
+use crate::fault::RunFault;
+use crate::hashing::{Digester, Output};
+use crate::items::{Item, Plan, Subject};
+use crate::options::Limits;
+use crate::said::Said;
+use crate::tally::Tally;
+use std::alloc::{AllocError, Global};
+
+/// Does what a plan says. It reads, hashes, writes and counts, item after item.
+#[derive(Drop)]
+pub struct Worker {
+    alloc: Global,
+    digester: Digester,
+    limits: Limits,
+    ghost largest: { limits.largest ≤ 2 ^ 30 },
+}
+
+impl Worker {
+    /// One that has done nothing. It takes the room for all reads here.
+    pub fn new(alloc: Global, output: Output, limits: Limits) -> Result<Worker, AllocError>
+        requires in_output { output.seek + output.length ≤ 2 ^ 64 - 1 }
+        requires largest { limits.largest ≤ 2 ^ 30 }
+        ensures output { IfOk result (λ worker. worker.digester.output ≡ output) }
+        ensures limits { IfOk result (λ worker. worker.limits ≡ limits) }
+    {
+        Ok(Worker {
+            alloc,
+            digester: Digester::new(alloc, output)?,
+            limits,
+        })
+    }
+
+    /// Does the items of a plan, one after the other.
+    pub fn run<'p, D: Desk, P: Plan<'p>>(
+        &mut self,
+        desk: &mut D,
+        plan: &mut P,
+    ) -> Result<Tally, RunFault>
+        requires fits { P.fits plan.old self.old.digester.output.length ≡ true }
+        requires few { length (P.left plan.old) < 2 ^ 63 }
+        requires room { HasRoom (D.scene desk.old) (length (P.left plan.old)) }
+        ensures run { Runs self.old.limits (tasks_script self.old.digester.output (P.left plan.old))
+            (D.scene desk.old) (D.scene desk.new) result }
+        ensures count { IfOk result (λ tally. counted tally ≡ length (P.left plan.old)) }
+        ensures shelf_count { (D.scene desk.new).failures ≤ (D.scene desk.old).failures + length (P.left plan.old) }
+        ensures loans { D.loans desk.new ≡ D.loans desk.old }
+        ensures limits { self.new.limits ≡ self.old.limits }
+        ensures output { self.new.digester.output ≡ self.old.digester.output }
+    {
+        let mut tally = Tally::none();
+        while let Some(item) = plan.next()? {
+            let one = self.run_item(desk, &item)?;
+            tally.add(&one);
+        }
+        Ok(tally)
+    }
+
+    // Does one item.
+    fn run_item<D: Desk>(&mut self, desk: &mut D, item: &Item<'_>) -> Result<Tally, RunFault>
+        requires fit { IsFitItem self.old.digester.output.length item.now }
+        requires room { HasRoom (D.scene desk.old) 1 }
+        ensures run { Runs self.old.limits (task_script self.old.digester.output (task_of item.now))
+            (D.scene desk.old) (D.scene desk.new) result }
+        ensures one { IfOk result (λ tally. counted tally ≡ 1) }
+        ensures shelf_count { (D.scene desk.new).failures ≤ (D.scene desk.old).failures + 1 }
+        ensures loans { D.loans desk.new ≡ D.loans desk.old }
+        ensures limits { self.new.limits ≡ self.old.limits }
+        ensures output { self.new.digester.output ≡ self.old.digester.output }
+    {
+        match item {
+            Item::Say(said) => {
+                desk.say(said)?;
+                Ok(said.tally)
+            }
+            Item::Ask(subject) => {
+                let said = self.find(desk, subject)?;
+                desk.say(&said)?;
+                Ok(said.tally)
+            }
+        }
+    }
+
+    // Asks for a name, and answers what is to be said of it.
+    fn find<D: Desk>(&mut self, desk: &mut D, subject: &Subject<'_>) -> Result<Said, RunFault>
+        requires fit { IsFit self.old.digester.output.length subject.now }
+        requires room { HasRoom (D.scene desk.old) 1 }
+        ensures gives { Gives self.old.limits self.old.digester.output (name_asked subject.now)
+            (subject_report subject.now)
+            (D.scene desk.old) (D.scene desk.new) result }
+        ensures loans { D.loans desk.new ≡ D.loans desk.old }
+        ensures limits { self.new.limits ≡ self.old.limits }
+        ensures output { self.new.digester.output ≡ self.old.digester.output }
+    {
+        let whole = desk.hash(&mut self.digester, subject.name(), self.limits)?;
+        let digest = whole.then_some(self.digester.digest());
+        Ok(subject.said(self.alloc, digest)?)
+    }
+}

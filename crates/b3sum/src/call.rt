@@ -1,0 +1,43 @@
+//! A call of the program, from its arguments to its status.
+
+ghost use Rattle.std.specs.Prelude.{◌^◌, ◌<◌, IfErr, IsOk, OnOk};
+ghost use Rattle.b3_check.specs.Runs.{scene};
+ghost use Rattle.b3sum.specs.Calls.{EndsCall, IsStopOf};
+
+use crate::run::run_words;
+use crate::stop::Stop;
+use crate::words::Words;
+use b3_check::{Shelf, Sink};
+use std::alloc::Global;
+use std::io;
+
+/// Does what the arguments of a call ask for, and answers the status of the program.
+pub fn run_call<R, S: Shelf, O: Sink, E: Sink>(
+    rt: &R,
+    alloc: Global,
+    arguments: io::Result<Vec<String>>,
+    shelf: &mut S,
+    out: &mut O,
+    err: &mut E,
+) -> u8
+    requires shelf_failures { S.failures shelf.old < 2 ^ 63 }
+    requires out_failures { O.failures out.old < 2 ^ 63 }
+    requires err_failures { E.failures err.old < 2 ^ 63 }
+    ensures { EndsCall arguments
+        (scene S.Shelf O.Sink E.Sink shelf.old out.old err.old)
+        (scene S.Shelf O.Sink E.Sink shelf.new out.new err.new) result }
+{
+    match read_words(alloc, arguments) {
+        Ok(words) => run_words(rt, alloc, shelf, words, out, err),
+        Err(stop) => stop.say(out, err),
+    }
+}
+
+// The words of the arguments, of which the first is the program's own name.
+fn read_words(alloc: Global, arguments: io::Result<Vec<String>>) -> Result<Words, Stop>
+    ensures given { OnOk result (IsOk arguments) }
+    ensures stop { IfErr result (λ stop. IsStopOf arguments stop) }
+{
+    let arguments = arguments?;
+    Words::read(alloc, arguments.as_slice())
+}

@@ -1,0 +1,114 @@
+//! The options that the program takes, as `clap` reads them.
+
+use b3_check::MAX_OUTPUT_LEN;
+use clap::{Arg, ArgAction, Command, value_parser};
+use std::alloc::{AllocError, Global};
+
+const AFTER_HELP: &str = "\
+Without FILE, or where FILE is -, standard input is read; it can be read once.
+
+Examples:
+  b3sum *.tar > SUMS          write a list of digests
+  b3sum --check SUMS          check the files that a list names
+  b3sum --keyed FILE < KEY    write a digest keyed by the 32 bytes of KEY
+
+The status is 0, or 1 where a file cannot be read, a digest differs, a line is
+malformed or the run is cut short, or 2 where the words are not taken.";
+
+/// The program's options and files.
+pub fn command<'a>(alloc: Global) -> Result<Command<'a>, AllocError> {
+    let files = Arg::new(alloc, "FILE")
+        .action(ArgAction::Append)
+        .help("Files to hash, or with --check lists to check");
+    Command::new(alloc, "b3sum")
+        .version("0.1.0")
+        .about("Writes BLAKE3 checksums, and checks them")
+        .after_help(AFTER_HELP)
+        .arg(check(alloc))?
+        .arg(quiet(alloc))?
+        .arg(keyed(alloc))?
+        .arg(derive_key(alloc))?
+        .arg(length(alloc))?
+        .arg(raw(alloc))?
+        .arg(no_names(alloc))?
+        .arg(num_threads(alloc))?
+        .arg(no_mmap(alloc))?
+        .arg(files)
+}
+
+fn check<'a>(alloc: Global) -> Arg<'a> {
+    flag(
+        alloc,
+        "check",
+        "Read lists of digests, and check the files that they name",
+    )
+    .short('c')
+}
+
+fn quiet<'a>(alloc: Global) -> Arg<'a> {
+    flag(
+        alloc,
+        "quiet",
+        "With --check, say nothing of files that are OK",
+    )
+}
+
+fn keyed<'a>(alloc: Global) -> Arg<'a> {
+    flag(
+        alloc,
+        "keyed",
+        "Key the hash by the 32 bytes of standard input",
+    )
+}
+
+fn derive_key<'a>(alloc: Global) -> Arg<'a> {
+    Arg::new(alloc, "derive-key")
+        .long("derive-key")
+        .value_name("CONTEXT")
+        .help("Take each file as key material, and derive a key from it under CONTEXT")
+}
+
+fn length<'a>(alloc: Global) -> Arg<'a> {
+    Arg::new(alloc, "length")
+        .short('l')
+        .long("length")
+        .value_name("N")
+        .value_parser(value_parser!(u32).range(0..=i64::from(MAX_OUTPUT_LEN)))
+        .help("Write N bytes of output, 0 to 1048576; without it 32")
+}
+
+fn raw<'a>(alloc: Global) -> Arg<'a> {
+    flag(
+        alloc,
+        "raw",
+        "Write the output bytes themselves, of one file",
+    )
+}
+
+fn no_names<'a>(alloc: Global) -> Arg<'a> {
+    flag(alloc, "no-names", "Write the digests without names")
+}
+
+fn num_threads<'a>(alloc: Global) -> Arg<'a> {
+    Arg::new(alloc, "num-threads")
+        .long("num-threads")
+        .value_name("N")
+        .value_parser(value_parser!(u16))
+        .help("Hash with N threads, at most 64; 4 where N is 0, and without it")
+}
+
+fn no_mmap<'a>(alloc: Global) -> Arg<'a> {
+    flag(
+        alloc,
+        "no-mmap",
+        "Change nothing: files are never mapped into memory",
+    )
+}
+
+// A flag that is long alone.
+fn flag<'a>(alloc: Global, name: &'a str, help: &'a str) -> Arg<'a> {
+    Arg::new(alloc, name)
+        .long(name)
+        .action(ArgAction::SetTrue)
+        .help(help)
+}

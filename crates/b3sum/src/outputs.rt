@@ -1,0 +1,44 @@
+ghost use Rattle.std.specs.Prelude.{◌≡◌};
+
+use crate::retrying::write_retrying;
+use b3_check::{Sink, SinkFailed};
+use std::io::Write;
+
+/// A sink over a writer.
+#[derive(Drop)]
+pub struct OutputSink<W> {
+    writer: W,
+    failures: u64,
+}
+
+impl<W: Write> OutputSink<W> {
+    /// A sink over a writer, which no write has failed.
+    pub fn new(writer: W) -> OutputSink<W>
+        ensures writer { result.writer ≡ writer }
+        ensures failures { result.failures ≡ 0 }
+    {
+        OutputSink {
+            writer,
+            failures: 0,
+        }
+    }
+}
+
+impl<W: Write> Sink for OutputSink<W> {
+    ghost failures = { λ sink. sink.failures };
+
+    ghost held = { λ sink. W.contents sink.writer };
+
+    fn write(&mut self, bytes: &[u8]) -> Result<usize, SinkFailed> {
+        if bytes.is_empty() {
+            return Ok(0);
+        }
+        match write_retrying(&mut self.writer, bytes) {
+            Ok(count) if count > 0 => Ok(count),
+            _ => {
+                self.failures += 1;
+                Err(SinkFailed)
+            }
+        }
+    }
+}

@@ -1,0 +1,259 @@
+// Whole calls, from their arguments to their texts and their status.
+
+ghost use Rattle.std.specs.Prelude.{◌≡◌};
+
+use crate::call::run_call;
+use crate::files::FileShelf;
+use crate::outputs::OutputSink;
+use b3_check::{MemoryShelf, MemorySink, Shelf, Sink};
+use std::alloc::{AllocError, Global};
+use std::io;
+use std::process::Abort;
+use std::rt::Files;
+
+const EMPTY_LINE: &[u8] = b"af1349b9f5f9a1a6a0404dea36dcc9499bcb25c9adc112b7cc9a93cae41f3262  -\n";
+
+// The arguments of a call with these words, behind the program's name.
+fn arguments(alloc: Global, words: &[&str]) -> Result<Vec<String>, AllocError> {
+    let mut all = Vec::new(alloc);
+    all.push(String::from_str(alloc, "b3sum")?)?;
+    for word in words {
+        all.push(String::from_str(alloc, word)?)?;
+    }
+    Ok(all)
+}
+
+// A call over this shelf, which writes these texts and ends with this status.
+fn assert_call<S: Shelf>(
+    rt: &impl Abort,
+    alloc: Global,
+    shelf: &mut S,
+    words: &[&str],
+    out: &[u8],
+    err: &[u8],
+    status: u8,
+) -> Result<(), AllocError>
+    requires { S.failures shelf.old ≡ 0 }
+{
+    let mut out_sink = MemorySink::new(alloc);
+    let mut err_sink = MemorySink::new(alloc);
+    let words = Ok(arguments(alloc, words)?);
+    let ended = run_call(rt, alloc, words, shelf, &mut out_sink, &mut err_sink);
+    assert_eq!(rt; out_sink.bytes(), out);
+    assert_eq!(rt; err_sink.bytes(), err);
+    assert_eq!(rt; ended, status);
+    Ok(())
+}
+
+// A call over the program's own shelf, with no file but its input.
+fn assert_piped<R: Abort + AllocGlobal + Files>(
+    rt: &R,
+    input: &[u8],
+    words: &[&str],
+    out: &[u8],
+    err: &[u8],
+    status: u8,
+) -> Result<(), AllocError> {
+    let mut shelf = FileShelf::new(rt, input);
+    assert_call(rt, rt.alloc(), &mut shelf, words, out, err, status)
+}
+
+#[test]
+fn standard_input_has_its_line(rt: HostRuntime) -> Result<(), AllocError> {
+    assert_piped(&rt, b"", &[], EMPTY_LINE, b"", 0)?;
+    assert_piped(
+        &rt,
+        b"",
+        &["--num-threads", "65535", "--no-mmap", "-"],
+        EMPTY_LINE,
+        b"",
+        0,
+    )?;
+    assert_piped(&rt, b"", &["--length", "1"], b"af  -\n", b"", 0)?;
+    assert_piped(&rt, b"", &["--length", "0"], b"  -\n", b"", 0)?;
+    let derived = b"2cc39783c223154fea8dfb7c1b1660f2ac2dcbd1c1de8277b0b0dd39b7e50d7d  -\n";
+    let context = "BLAKE3 2019-12-27 16:29:52 test vectors context";
+    assert_piped(&rt, b"", &["--derive-key", context], derived, b"", 0)
+}
+
+#[test]
+fn output_without_names(rt: HostRuntime) -> Result<(), AllocError> {
+    let digits = b"af1349b9f5f9a1a6a0404dea36dcc9499bcb25c9adc112b7cc9a93cae41f3262\n";
+    assert_piped(&rt, b"", &["--raw", "-l", "4"], b"\xaf\x13\x49\xb9", b"", 0)?;
+    assert_piped(&rt, b"", &["--no-names"], digits, b"", 0)?;
+    assert_piped(
+        &rt,
+        b"",
+        &["--raw", "--no-names", "-l", "1"],
+        b"\xaf",
+        b"",
+        0,
+    )
+}
+
+#[test]
+fn standard_input_is_read_once(rt: HostRuntime) -> Result<(), AllocError> {
+    let words = ["-", "-"];
+    assert_piped(&rt, b"", &words, EMPTY_LINE, b"b3sum: -: cannot read\n", 1)?;
+    let list = b"af1349b9f5f9a1a6a0404dea36dcc9499bcb25c9adc112b7cc9a93cae41f3262  -\n";
+    let warning = b"b3sum: WARNING: 1 computed checksum did NOT match\n";
+    assert_piped(
+        &rt,
+        list,
+        &["--check"],
+        b"-: FAILED (cannot read)\n",
+        warning,
+        1,
+    )
+}
+
+#[test]
+fn files_of_a_shelf(rt: HostRuntime) -> Result<(), AllocError> {
+    let alloc = rt.alloc();
+    let mut shelf = MemoryShelf::new(alloc);
+    shelf.put("e", b"")?;
+    let line = b"af1349b9f5f9a1a6a0404dea36dcc9499bcb25c9adc112b7cc9a93cae41f3262  e\n";
+    let unread = b"b3sum: p: cannot read\n";
+    assert_call(&rt, alloc, &mut shelf, &["p", "e"], line, unread, 1)?;
+    let mut shelf = MemoryShelf::new(alloc);
+    assert_call(
+        &rt,
+        alloc,
+        &mut shelf,
+        &[""],
+        b"",
+        b"b3sum: : bad name\n",
+        1,
+    )
+}
+
+#[test]
+fn a_key_is_read_from_standard_input(rt: HostRuntime) -> Result<(), AllocError> {
+    let alloc = rt.alloc();
+    let mut shelf = MemoryShelf::new(alloc);
+    shelf.put("-", b"whats the Elvish word for friend")?;
+    shelf.put("e", b"")?;
+    let line = b"92b2b75604ed3c761f9d6f62392c8a9227ad0ea3f09573e783f1498a4ed60d26  e\n";
+    assert_call(&rt, alloc, &mut shelf, &["--keyed", "e"], line, b"", 0)?;
+    let short = b"b3sum: the key is not 32 bytes\n";
+    assert_piped(
+        &rt,
+        b"31 bytes are no key, nor are 33",
+        &["--keyed", "e"],
+        b"",
+        short,
+        1,
+    )
+}
+
+#[test]
+fn a_list_is_checked_and_good_lines_passed_over(rt: HostRuntime) -> Result<(), AllocError> {
+    let alloc = rt.alloc();
+    let mut shelf = MemoryShelf::new(alloc);
+    shelf.put("x", b"\0")?;
+    shelf.put("y", b"")?;
+    shelf.put(
+        "l",
+        b"2d3adedff11b61f14c886e35afa036736dcd87a74d27b5c1510225d0f592e213  x\r\n\
+          2d3adedff11b61f14c886e35afa036736dcd87a74d27b5c1510225d0f592e213  y\n\
+          2d3adedff11b61f14c886e35afa036736dcd87a74d27b5c1510225d0f592e213 ",
+    )?;
+    let err = b"b3sum: line 3: short line\nb3sum: WARNING: 2 computed checksums did NOT match\n";
+    let words = ["--check", "--quiet", "l"];
+    assert_call(&rt, alloc, &mut shelf, &words, b"y: FAILED\n", err, 1)
+}
+
+#[test]
+fn words_that_ask_for_nothing_that_can_be_done(rt: HostRuntime) -> Result<(), AllocError> {
+    let rows: [(&[&str], &str); 13] = [
+        (
+            &["--check", "--raw", "--keyed"],
+            "b3sum: --check cannot be used with --keyed\n",
+        ),
+        (
+            &["-c", "-l", "1", "--derive-key", "c"],
+            "b3sum: --check cannot be used with --derive-key\n",
+        ),
+        (
+            &["-c", "--raw", "-l", "1"],
+            "b3sum: --check cannot be used with --length\n",
+        ),
+        (
+            &["-c", "--no-names", "--raw"],
+            "b3sum: --check cannot be used with --raw\n",
+        ),
+        (
+            &["-c", "--no-names"],
+            "b3sum: --check cannot be used with --no-names\n",
+        ),
+        (
+            &["--keyed", "--derive-key", "c"],
+            "b3sum: --keyed cannot be used with --derive-key\n",
+        ),
+        (
+            &["--keyed", "--derive-key", "c", "--quiet"],
+            "b3sum: --keyed cannot be used with --derive-key\n",
+        ),
+        (&["--quiet"], "b3sum: --quiet needs --check\n"),
+        (
+            &["--quiet", "--raw", "e", "e"],
+            "b3sum: --quiet needs --check\n",
+        ),
+        (&["--raw", "e", "e"], "b3sum: --raw takes one input\n"),
+        (
+            &["--raw", "--keyed", "-", "e"],
+            "b3sum: --raw takes one input\n",
+        ),
+        (&["--keyed"], "b3sum: --keyed needs files\n"),
+        (&["--keyed", "e", "-"], "b3sum: --keyed needs files\n"),
+    ];
+    for (words, err) in &rows {
+        assert_piped(&rt, b"", words, b"", err.as_bytes(), 2)?;
+    }
+    Ok(())
+}
+
+#[test]
+fn arguments_that_cannot_be_had(rt: HostRuntime) {
+    let rows = [
+        (
+            io::ErrorKind::InvalidData,
+            "b3sum: an argument is not text\n",
+            2,
+        ),
+        (io::ErrorKind::OutOfMemory, "b3sum: out of memory\n", 1),
+    ];
+    for (kind, text, status) in &rows {
+        let mut shelf = FileShelf::new(&rt, b"".as_slice());
+        let mut out = MemorySink::new(rt.alloc());
+        let mut err = MemorySink::new(rt.alloc());
+        let arguments = Err(io::Error::from(*kind));
+        let ended = run_call(&rt, rt.alloc(), arguments, &mut shelf, &mut out, &mut err);
+        assert!(rt; out.bytes().is_empty());
+        assert_eq!(rt; err.bytes(), text.as_bytes());
+        assert_eq!(rt; ended, *status);
+    }
+}
+
+// A call with these words, whose output takes three bytes.
+fn assert_cut_short<R: Abort + AllocGlobal + Files>(
+    rt: &R,
+    words: &[&str],
+) -> Result<(), AllocError> {
+    let mut room = [0; 3];
+    let mut out = OutputSink::new(room.as_mut_slice());
+    let mut shelf = FileShelf::new(rt, b"".as_slice());
+    let mut err = MemorySink::new(rt.alloc());
+    let words = Ok(arguments(rt.alloc(), words)?);
+    let ended = run_call(rt, rt.alloc(), words, &mut shelf, &mut out, &mut err);
+    assert_eq!(rt; err.bytes(), b"b3sum: cannot write\n".as_slice());
+    assert_eq!(rt; ended, 1);
+    Ok(())
+}
+
+#[test]
+fn an_output_that_is_full(rt: HostRuntime) -> Result<(), AllocError> {
+    assert_cut_short(&rt, &[])?;
+    assert_cut_short(&rt, &["--help"])?;
+    assert_cut_short(&rt, &["--version"])
+}

@@ -1,0 +1,154 @@
+// What `clap` reads of words.
+
+use crate::stop::Stop;
+use crate::words::Words;
+use b3_check::MAX_OUTPUT_LEN;
+use std::alloc::{AllocError, Global};
+use std::process::Abort;
+
+fn read(alloc: Global, words: &[&str]) -> Result<Words, Stop> {
+    let mut all = Vec::new(alloc);
+    all.push(String::from_str(alloc, "b3sum")?)
+        .map_err(AllocError::from)?;
+    for word in words {
+        all.push(String::from_str(alloc, word)?)
+            .map_err(AllocError::from)?;
+    }
+    Words::read(alloc, all.as_slice())
+}
+
+// The words are not taken, and the text says why.
+fn assert_refused(rt: &impl Abort, alloc: Global, words: &[&str], part: &str) {
+    match read(alloc, words) {
+        Err(Stop::Refused(text)) => {
+            assert!(rt; text.contains(part), "the text is {text}");
+        }
+        _ => assert!(rt; false, "the words are taken"),
+    }
+}
+
+#[test]
+fn no_words(rt: HostRuntime) -> Result<(), Stop> {
+    let words = read(rt.alloc(), &[])?;
+    assert!(rt; !words.check && !words.keyed && !words.raw && !words.no_names && !words.quiet);
+    assert!(rt; words.derive_key.is_none());
+    assert_eq!(rt; words.length, None);
+    assert_eq!(rt; words.num_threads, None);
+    assert!(rt; words.files.is_empty());
+    Ok(())
+}
+
+#[test]
+fn all_words(rt: HostRuntime) -> Result<(), Stop> {
+    let words = read(
+        rt.alloc(),
+        &[
+            "-c",
+            "a",
+            "--keyed",
+            "--derive-key",
+            "a context",
+            "-l",
+            "0",
+            "--raw",
+            "--no-names",
+            "--quiet",
+            "--num-threads",
+            "0",
+            "--no-mmap",
+            "--",
+            "-b",
+            "-",
+        ],
+    )?;
+    assert!(rt; words.check && words.keyed && words.raw && words.no_names && words.quiet);
+    assert!(rt; words.derive_key == Some(String::from_str(rt.alloc(), "a context")?));
+    assert_eq!(rt; words.length, Some(0));
+    assert_eq!(rt; words.num_threads, Some(0));
+    assert_eq!(rt; words.files.len(), 3);
+    assert!(rt;
+        words.files[0].as_str() == "a"
+            && words.files[1].as_str() == "-b"
+            && words.files[2].as_str() == "-"
+    );
+    Ok(())
+}
+
+#[test]
+fn the_ends_of_each_range(rt: HostRuntime) -> Result<(), Stop> {
+    let alloc = rt.alloc();
+    assert_eq!(rt; read(alloc, &["--length=1048576"])?.length, Some(1_048_576));
+    assert_eq!(rt;
+        read(alloc, &["--num-threads=65535"])?.num_threads,
+        Some(65_535)
+    );
+    assert_refused(
+        &rt,
+        alloc,
+        &["--length", "1048577"],
+        "1048577 is not in 0..=1048576",
+    );
+    assert_refused(
+        &rt,
+        alloc,
+        &["--num-threads", "65536"],
+        "65536 is not in 0..=65535",
+    );
+    Ok(())
+}
+
+#[test]
+fn words_that_are_not_taken(rt: HostRuntime) {
+    let alloc = rt.alloc();
+    assert_refused(
+        &rt,
+        alloc,
+        &["--length"],
+        "a value is required for '--length <N>'",
+    );
+    assert_refused(
+        &rt,
+        alloc,
+        &["--length", "x"],
+        "invalid value 'x' for '--length <N>'",
+    );
+    assert_refused(
+        &rt,
+        alloc,
+        &["--derive-key"],
+        "a value is required for '--derive-key <CONTEXT>'",
+    );
+    assert_refused(
+        &rt,
+        alloc,
+        &["--stray"],
+        "unexpected argument '--stray' found",
+    );
+}
+
+#[test]
+fn help_and_version(rt: HostRuntime) -> Result<(), AllocError> {
+    let range = format!(in rt.alloc(); "0 to {MAX_OUTPUT_LEN}")?;
+    match read(rt.alloc(), &["--help"]) {
+        Err(Stop::Asked(text)) => {
+            assert!(rt;
+                text.contains(range.as_str()),
+                "the help has no range of lengths"
+            );
+            for word in [
+                "Usage: b3sum [OPTIONS] [FILE]...",
+                "--check",
+                "Examples:",
+                "status",
+            ] {
+                assert!(rt; text.contains(word), "the help has no {word}");
+            }
+        }
+        _other => assert!(rt; false, "no help"),
+    }
+    match read(rt.alloc(), &["--version"]) {
+        Err(Stop::Asked(text)) => assert_eq!(rt; text.as_str(), "b3sum 0.1.0\n"),
+        _other => assert!(rt; false, "no version"),
+    }
+    Ok(())
+}
