@@ -1,0 +1,20 @@
+-- The node of a subtree from those of its two children.
+pub mod Parts
+-- A search by halves among ascending entries.
+pub mod Finding
+-- The sibling of a piece among the pieces.
+pub mod Partners
+-- What closing a span and joining two siblings does to a picture.
+pub mod Steps
+-- A board on which all spans are open is lawful.
+pub mod Cuttings
+-- With nothing open there is the root alone, and the other way round.
+pub mod Roots
+-- What a list keeps of another, by `filter_map`: each element, one by one, and sums.
+pub mod Filtered
+-- The picture of a lawful board is lawful.
+pub mod Picturing
+-- The pieces of a lawful board are the greatest subtrees of deposited chunks.
+pub mod Greatest
+-- A deposit, and what else the calls of a board say, on the picture.
+pub mod Deposits

@@ -1,0 +1,71 @@
+use Rattle.std.proofs.Common.{◌≡◌, ◌≢◌, ℕ, ◌+◌, List, None, map, set, sum_by, rules, arith, refl, sym, subst, ap, ◌∙◌}
+use Rattle.std.proofs.lemmas.Bool.{false≢true}
+use Rattle.std.proofs.lemmas.List.{with_items_is}
+use Rattle.std.specs.List.{Contains}
+use Rattle.std.specs.Vec.{with_items}
+use Rattle.b3_core.specs.declared.tree.Span.{Span}
+use Rattle.b3_board.specs.Entries.{at, kept_chunk, kept_count, open_span}
+use Rattle.b3_board.specs.Pictures.{IsDeposit, IsLawful, Picture, Piece}
+use Rattle.b3_board.specs.declared.entries.Entry.{Entry}
+use Rattle.b3_board.specs.Spans.{has}
+use Rattle.b3_board.specs.declared.entries.State.TheVariants.{Open}
+use Rattle.b3_board.proofs.Deposits.{Contains-open, deposited, not_open}
+use Rattle.b3_board.proofs.Picturing.{lawful_picture, picture_of}
+use Rattle.b3_board.proofs.Roots.{same_length}
+use Rattle.b3_board.proofs.board.Board.deposit_own.Goals as goal
+
+pub returns-in_default-clause-ok : goal.returns-in_default-clause-ok
+returns-in_default-clause-ok g c =
+    let board = c.self.inside in
+    let none : (i : ℕ) → (at board.entries.items i).state ≡ Open → (at board.entries.items i).span ≢ c.own.inside.span =
+    rw c.as_slice.ensures.value at c.in_default.ensures.none in
+    let absent : ¬ Contains c.args.self.now.open_spans c.args.own.span =
+    subst (λ (p : Picture). ¬ Contains p.open_spans c.args.own.span) c.self.view_is (not_open board.entries.items c.args.own.span (λ i state_is span_is. none i state_is (span_is ∙ sym (ap (λ (d : Piece). d.span) c.own.view_is)))) in
+    (λ h. absurd (false≢true h), λ own. absurd (absent own))
+
+pub returns-in_default-clause-lawful : goal.returns-in_default-clause-lawful
+returns-in_default-clause-lawful g c =
+    let board = c.self.inside in
+    let kept = c.self.invariant in
+    subst IsLawful c.self.view_is
+    (lawful_picture board.tree.input.now board.tree.mode board.tree.first board.entries.items kept.lawful board.account.chunks kept.booked)
+
+pub returns-clause-ok : goal.returns-clause-ok
+returns-clause-ok g c =
+    let board = c.self.inside in
+    let found = rw c.as_slice.ensures.value at c.in-Some.ensures.found in
+    let there = Contains-open board.entries.items c.in-Some.place c.args.own.span found.0 found.1 (found.2
+    ∙ (ap (λ (d : Piece). d.span) c.own.view_is)) in
+    (λ h. subst (λ (p : Picture). Contains p.open_spans c.args.own.span) c.self.view_is there, λ h. refl)
+
+pub returns-clause-step : goal.returns-clause-step
+returns-clause-step g c =
+    let board = c.self.inside in
+    let tree = c.self.inside.tree in
+    let found = rw c.as_slice.ensures.value at c.in-Some.ensures.found in
+    let opens : map open_span c.settle.new.entries ≡ set (map open_span board.entries.items) c.in-Some.place None =
+    search (rules, c.settle.ensures.opens, c.as_mut_slice.ensures.value) in
+    let joins : (k : ℕ) → sum_by (kept_chunk k) c.settle.new.entries ≡ sum_by (kept_chunk k) board.entries.items + has k (at board.entries.items c.in-Some.place).span.first (at board.entries.items c.in-Some.place).span.count =
+    λ k. search (rules, c.settle.ensures.chunks k, c.as_mut_slice.ensures.value) in
+    let step = deposited tree.input.now tree.mode tree.first board.entries.items c.settle.new.entries c.in-Some.place c.args.own.span board.account.chunks found.1 (found.2 ∙ (ap (λ (d : Piece). d.span) c.own.view_is)) opens joins in
+    let booked = subst (λ (b : ℕ). IsDeposit (picture_of tree.input.now tree.mode tree.first board.entries.items board.account.chunks) c.args.own.span (picture_of tree.input.now tree.mode tree.first c.settle.new.entries b)) (sym (c.credit.ensures.chunks ∙ ap (λ (s : Span). board.account.chunks + s.count) (ap (λ (d : Piece). d.span) c.own.view_is))) step in
+    let items : (with_items board.entries c.settle.new.entries).items ≡ c.settle.new.entries =
+    with_items_is board.entries c.settle.new.entries (same_length board.entries.items c.settle.new.entries c.in-Some.place opens ∙ sym board.entries.ok.0) in
+    let moved = subst (λ (p : Picture). IsDeposit p c.args.own.span (picture_of tree.input.now tree.mode tree.first c.settle.new.entries c.credit.new.self.chunks)) c.self.view_is booked in
+    subst (λ (es : List Entry). IsDeposit c.args.self.now c.args.own.span (picture_of tree.input.now tree.mode tree.first es c.credit.new.self.chunks)) (sym items) moved
+
+pub returns-clause-lawful : goal.returns-clause-lawful
+returns-clause-lawful g c =
+    let board = c.self.inside in
+    let tree = c.self.inside.tree in
+    let found = rw c.as_slice.ensures.value at c.in-Some.ensures.found in
+    let count : sum_by kept_count c.settle.new.entries ≡ sum_by kept_count board.entries.items + (at board.entries.items c.in-Some.place).span.count =
+    search (rules, c.settle.ensures.count, c.as_mut_slice.ensures.value) in
+    let booked : sum_by kept_count c.settle.new.entries ≡ c.credit.new.self.chunks =
+    omega (arith, count, c.self.invariant.booked, c.credit.ensures.chunks, ap (λ (s : Span). s.count) found.2) in
+    let opens : map open_span c.settle.new.entries ≡ set (map open_span board.entries.items) c.in-Some.place None =
+    search (rules, c.settle.ensures.opens, c.as_mut_slice.ensures.value) in
+    let items : (with_items board.entries c.settle.new.entries).items ≡ c.settle.new.entries =
+    with_items_is board.entries c.settle.new.entries (same_length board.entries.items c.settle.new.entries c.in-Some.place opens ∙ sym board.entries.ok.0) in
+    subst (λ (es : List Entry). IsLawful (picture_of tree.input.now tree.mode tree.first es c.credit.new.self.chunks)) (sym items)
+    (lawful_picture tree.input.now tree.mode tree.first c.settle.new.entries c.settle.ensures.lawful c.credit.new.self.chunks booked)

@@ -1,0 +1,11 @@
+use Rattle.std.proofs.Common.{subst}
+use Rattle.b3_board.specs.Pictures.{IsLawful}
+use Rattle.b3_board.proofs.Picturing.{lawful_picture}
+use Rattle.b3_board.proofs.board.Board.deposited.Goals as goal
+
+pub returns-clause-lawful : goal.returns-clause-lawful
+returns-clause-lawful g c =
+    let board = c.self.inside in
+    let kept = c.self.invariant in
+    subst IsLawful c.self.view_is
+    (lawful_picture board.tree.input.now board.tree.mode board.tree.first board.entries.items kept.lawful board.account.chunks kept.booked)

@@ -1,0 +1,21 @@
+use Rattle.std.proofs.Common.{◌≡◌, ◌-◌, arith, subst}
+use Rattle.b3_core.specs.declared.tree.Span.{Span}
+use Rattle.b3_board.specs.Entries.{open_spans}
+use Rattle.b3_board.specs.Pictures.{Picture}
+use Rattle.b3_board.specs.Spans.{chunks_in}
+use Rattle.b3_board.proofs.Picturing.{sum_open}
+use Rattle.b3_board.proofs.board.Board.waiting.Goals as goal
+
+pub returns-clause-open : goal.returns-clause-open
+returns-clause-open g c =
+    let board = c.self.inside in
+    let kept = c.self.invariant in
+    let here : c.size.result - board.account.chunks ≡ chunks_in (open_spans board.entries.items) =
+    omega (
+      arith,
+      c.size.ensures,
+      sum_open (λ (s : Span). s.count) board.entries.items,
+      kept.lawful.sound.all,
+      kept.booked,
+    ) in
+    subst (λ (p : Picture). c.size.result - board.account.chunks ≡ chunks_in p.open_spans) c.self.view_is here

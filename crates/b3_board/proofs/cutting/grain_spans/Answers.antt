@@ -1,0 +1,39 @@
+use Rattle.std.proofs.Common.{ℕ, ◌≡◌, map, length, rules, arith, sym, subst, ap, ◌∙◌}
+use Rattle.std.specs.Int.{div_ceil}
+use Rattle.std.specs.List.{range_with_len}
+use Rattle.std.proofs.lemmas.List.FromFn.{length-map-range_with_len, map-range_with_len_more}
+use Rattle.b3_board.specs.Plans.{IsCutting, grain_span, grain_spans}
+use Rattle.b3_board.proofs.Cuttings.{grain_cutting}
+use Rattle.b3_board.proofs.cutting.grain_spans.Goals as goal
+
+pub loop-i-preserved : goal.loop-i-preserved
+loop-i-preserved c =
+    c.in_ok-push.ensures.items
+    ∙ search (
+      rules,
+      c.min.ensures,
+      c.loop-i.invariant,
+      map-range_with_len_more (grain_span c.args.n c.args.grain) 0 c.loop-i.i c.loop-i.i (omega arith),
+    )
+
+pub returns-clause-cutting : goal.returns-clause-cutting
+returns-clause-cutting c =
+    let count : c.loop-i.i ≡ div_ceil c.args.n c.args.grain = omega (
+      arith,
+      c.loop-i-test.false,
+      c.loop-i.auto,
+      c.div_ceil-count.ensures,
+    ) in
+    let is : c.loop-i.spans.items ≡ grain_spans c.args.n c.args.grain =
+    c.loop-i.invariant ∙ ap (λ (i : ℕ). map (grain_span c.args.n c.args.grain) (range_with_len 0 i)) count in
+    subst (IsCutting c.args.n) (sym is) (grain_cutting c.args.n c.args.grain c.requires.some c.requires.grain.0)
+
+pub returns-clause-len : goal.returns-clause-len
+returns-clause-len c =
+    let count : c.loop-i.i ≡ div_ceil c.args.n c.args.grain = omega (
+      arith,
+      c.loop-i-test.false,
+      c.loop-i.auto,
+      c.div_ceil-count.ensures,
+    ) in
+    ap length c.loop-i.invariant ∙ length-map-range_with_len (grain_span c.args.n c.args.grain) 0 c.loop-i.i ∙ count

@@ -1,0 +1,10 @@
+use Rattle.std.proofs.Common.{length, arith}
+use Rattle.b3_core.specs.Tree.{chunks}
+use Rattle.b3_board.proofs.Partners.{kept_some}
+use Rattle.b3_core.proofs.Siblings.{IsSubtree-had}
+use Rattle.b3_board.proofs.merging.merge_up.Goals as goal
+
+pub partner-requires-clause-subtree : goal.partner-requires-clause-subtree
+partner-requires-clause-subtree c =
+    let up = IsSubtree-had (chunks (length c.args.tree.now.input.now)) _ _ (omega arith) (c.loop-other.invariant.sound.subtrees c.loop-other.here (kept_some _ _ c.loop-other.invariant.kept (c.loop-other.invariant.sound.fits c.loop-other.here))) in
+    rw c.size-n.ensures up

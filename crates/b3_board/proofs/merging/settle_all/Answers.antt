@@ -1,0 +1,18 @@
+use Rattle.std.proofs.Common.{inl, inr, length, arith, ap}
+use Rattle.std.proofs.lemmas.Bool.{cases_lt}
+use Rattle.std.proofs.lemmas.List.{get_or_past}
+use Rattle.b3_board.specs.Entries.{nothing, open_span}
+use Rattle.b3_board.proofs.Roots.{all_kept}
+use Rattle.b3_board.proofs.merging.settle_all.Goals as goal
+
+pub returns-clause-none : goal.returns-clause-none
+returns-clause-none c = λ i. elim (cases_lt i (length c.spans.entries)) [
+  | inl short ↦ c.spans.invariant.closed i (omega (arith, c.spans.invariant.len, c.spans-test.false))
+  | inr past ↦ ap open_span (get_or_past c.spans.entries i nothing past)
+]
+
+pub returns-clause-waiting : goal.returns-clause-waiting
+returns-clause-waiting c =
+    let tree = c.args.tree.now in
+    let all = all_kept tree.input.now tree.mode tree.first c.spans.entries c.spans.invariant.lawful (returns-clause-none c) in
+    omega (arith, all, c.spans.invariant.count, c.requires.lawful.sound.all)

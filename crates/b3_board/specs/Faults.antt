@@ -1,0 +1,24 @@
+-- When a plan is refused, and by which fault: of several reasons that hold, the first.
+use Rattle.std.specs.Prelude.{ℕ, ◌<◌, ◌≤◌, ◌^◌, List, length}
+use Rattle.std.specs.Int.{div_ceil}
+use Rattle.b3_core.specs.Tree.{chunks}
+use Rattle.b3_core.specs.declared.tree.Span.{Span}
+use Rattle.b3_board.specs.Plans.{IsCutting, IsGrain}
+use Rattle.b3_board.specs.declared.fault.BoardFault.{BoardFault}
+use Rattle.b3_board.specs.declared.fault.BoardFault.TheVariants.{BadGrain, BadCut, TooLarge, TooManySpans, Memory}
+
+-- the refusal of an input of `len` bytes that is to be cut by a grain
+abbrev pub IsGrainFault : ℕ → ℕ → BoardFault → Type 0
+IsGrainFault len grain BadGrain = ¬ IsGrain grain
+IsGrainFault len grain TooLarge = IsGrain grain × (2 ^ 30 < len)
+IsGrainFault len grain TooManySpans = IsGrain grain × (len ≤ 2 ^ 30) × (1024 < div_ceil (chunks len) grain)
+IsGrainFault len grain BadCut = ⊥
+IsGrainFault len grain Memory = ⊥
+
+-- the refusal of an input of `len` bytes that is to be cut into these spans
+abbrev pub IsCutFault : ℕ → List Span → BoardFault → Type 0
+IsCutFault len spans TooLarge = 2 ^ 30 < len
+IsCutFault len spans TooManySpans = (len ≤ 2 ^ 30) × (1024 < length spans)
+IsCutFault len spans BadCut = (len ≤ 2 ^ 30) × (length spans ≤ 1024) × ¬ IsCutting (chunks len) spans
+IsCutFault len spans BadGrain = ⊥
+IsCutFault len spans Memory = ⊥

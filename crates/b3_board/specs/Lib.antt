@@ -1,0 +1,7 @@
+pub mod Spans
+pub mod Plans
+pub mod Faults
+pub mod Pictures
+pub mod Shares
+pub mod Roots
+pub mod Entries

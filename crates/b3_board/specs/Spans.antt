@@ -1,0 +1,36 @@
+-- Spans of the chunks of an input, and what of the input stands under them (BLAKE3 (2020), 2.1).
+use Rattle.std.specs.Prelude.{◌≡◌, ℕ, ◌+◌, ◌-◌, ◌*◌, min, List, take, drop, sum_by}
+use Rattle.b3_core.specs.Chunks.{chunk_len}
+use Rattle.b3_core.specs.Subtrees.{IsSubtree}
+use Rattle.b3_core.specs.Tree.{top}
+use Rattle.b3_core.specs.declared.modes.Mode.{Mode}
+use Rattle.b3_core.specs.declared.nodes.Node.{Node}
+use Rattle.b3_core.specs.declared.tree.Span.{Span}
+
+-- the span is a subtree of the tree over n chunks, whichever way leads down to it
+abbrev pub IsSubtreeSpan : ℕ → Span → Type 0
+IsSubtreeSpan n span = ∥ IsSubtree n span.first span.count ∥₁
+
+-- 1 where chunk k is one of the c chunks from chunk a on, else 0
+abbrev pub has : ℕ → ℕ → ℕ → ℕ
+has k a c = min 1 (min (k + 1 - a) (a + c - k))
+
+-- in how many of the spans chunk k stands
+abbrev pub times : ℕ → List Span → ℕ
+times k spans = sum_by (λ s. has k s.first s.count) spans
+
+-- how many chunks the spans have together
+abbrev pub chunks_in : List Span → ℕ
+chunks_in spans = sum_by (λ s. s.count) spans
+
+-- the input's bytes in c chunks from chunk a on
+abbrev pub part : List ℕ → ℕ → ℕ → List ℕ
+part input a c = take (chunk_len * c) (drop (chunk_len * a) input)
+
+-- the top of the input's chunks in a span, where the input's chunks are numbered from `first`
+abbrev pub top_of : List ℕ → Mode → ℕ → Span → Node
+top_of input mode first span = top mode (first + span.first) (part input span.first span.count)
+
+-- the node is that top
+abbrev pub IsNodeOf : List ℕ → Mode → ℕ → Span → Node → Type 0
+IsNodeOf input mode first span node = node ≡ top_of input mode first span

@@ -1,0 +1,43 @@
+//! Why a plan or a board is refused.
+
+ghost use Rattle.std.specs.Prelude.{◌≡◌};
+ghost use Rattle.b3_board.specs.declared.fault.BoardFault.TheVariants.{Memory};
+
+use std::alloc::{AllocError, AllocFailed};
+use thiserror::Error;
+
+/// Why a plan or a board is refused.
+#[derive(Clone, Copy, Debug, PartialEq, Eq, Error)]
+pub enum BoardFault {
+    /// The grain is no power of two from 1 to 2^20.
+    #[error("the grain is no power of two from 1 to 2^20")]
+    BadGrain,
+    /// The spans are no cutting of the input into subtrees.
+    #[error("the spans are no cutting of the input into subtrees")]
+    BadCut,
+    /// The input has more than 2^30 bytes.
+    #[error("the input has more than 2^30 bytes")]
+    TooLarge,
+    /// There are more than 1,024 spans.
+    #[error("there are more than 1,024 spans")]
+    TooManySpans,
+    /// A growth was refused.
+    #[error("out of memory")]
+    Memory,
+}
+
+impl From<AllocError> for BoardFault {
+    ghost from_gives = { λ _ fault. fault ≡ Memory };
+
+    fn from(_: AllocError) -> BoardFault {
+        BoardFault::Memory
+    }
+}
+
+impl<T: Drop> From<AllocFailed<T>> for BoardFault {
+    ghost from_gives = { λ _ fault. fault ≡ Memory };
+
+    fn from(_: AllocFailed<T>) -> BoardFault {
+        BoardFault::Memory
+    }
+}

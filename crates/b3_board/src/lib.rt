@@ -1,0 +1,30 @@
+//! A board over the tree of one input: which spans of it are still to be hashed, and the nodes of the
+//! subtrees that were.
+//!
+//! A [`Plan`] cuts an input into spans. Each span is a [`Job`], whose work gives a [`Done`]; a [`Board`]
+//! takes what is done in any order, merges siblings, and has the root once no span is open. A [`Share`]
+//! counts the chunks that its owner deposited.
+#![tactic(auto)]
+
+mod board;
+mod cutting;
+mod entries;
+mod fault;
+mod jobs;
+mod merging;
+mod plan;
+mod planned;
+mod root;
+mod share;
+#[cfg(test)]
+mod tests;
+mod tree;
+
+pub use board::{Board, Refused};
+pub use cutting::default_grain;
+pub use fault::BoardFault;
+pub use jobs::{Done, Job};
+pub use plan::Plan;
+pub use planned::{OwnDone, OwnJob, Planned};
+pub use root::Root;
+pub use share::Share;
