@@ -1,27 +1,53 @@
-# `make` builds the program for this machine's processor and leaves it as ./b3sum.
+# `make` proves the crates, builds the program for this machine's processor and leaves it as ./b3sum.
+# `make install` puts it and its manual page below PREFIX, which is /usr/local; `make uninstall` takes them away.
 # `make test` is the gate: every proof from nothing, the must-fail edits, the tests and the stored run.
-# `make compare` runs ./b3sum beside the installed b3sum on random inputs; `make bench` times both.
+# Beside the gate, over the built program:
+# `make compare` runs it beside the installed b3sum, on the same inputs, trees and lists.
+# `make faults` runs it against full devices, closed streams, broken lists, odd names and files that change.
 # `make refused` refuses each growth of memory in turn.
+# `make bench` times it and the installed b3sum.
+
+PREFIX = /usr/local
+DESTDIR =
+INSTALL = install
 
 CPU := $(if $(shell grep -m 1 -o -w avx2 /proc/cpuinfo 2>/dev/null),--cpu=x86-64-v3)
 
-.PHONY: all test compare bench refused clean
+# With the folders, which are newer than the program once a file of theirs came or went.
+SOURCES := crates.txt $(shell find crates/*/ -mindepth 1 \( -name out -o -name must-fail \) -prune -o -print)
 
-all:
+.PHONY: all install uninstall test compare faults refused bench clean
+
+all: b3sum
+
+b3sum: $(SOURCES)
+	@test -d crates/b3sum/out || echo "b3sum: every crate is proved from nothing the first time: some ten minutes on four processors"
 	cd crates/b3sum && rt run $(CPU) < /dev/null > /dev/null
-	cp crates/b3sum/out/b3sum b3sum
+	$(INSTALL) -m 755 crates/b3sum/out/b3sum $@
+
+install: b3sum
+	$(INSTALL) -d $(DESTDIR)$(PREFIX)/bin $(DESTDIR)$(PREFIX)/share/man/man1
+	$(INSTALL) -m 755 b3sum $(DESTDIR)$(PREFIX)/bin/b3sum
+	$(INSTALL) -m 644 b3sum.1 $(DESTDIR)$(PREFIX)/share/man/man1/b3sum.1
+
+uninstall:
+	rm -f $(DESTDIR)$(PREFIX)/bin/b3sum $(DESTDIR)$(PREFIX)/share/man/man1/b3sum.1
 
 test:
 	rt ci
 
-compare: all
+compare: b3sum
 	tools/compare
 
-bench: all
-	tools/bench
+faults: b3sum
+	tools/faults
 
-refused:
+refused: b3sum
 	tools/refused-memory
+	tools/refused-tests
+
+bench: b3sum
+	tools/bench
 
 clean:
 	rm -rf b3sum crates/*/out
