@@ -121,8 +121,13 @@ module _ (n : ℕ) where
             let gap = below_multiple low.q (high.q * 2 ^ e) p (omega (arith, low.starts, begins)) in
             absurd (omega (arith, low.starts, low.covers, begins, meet.1, gap))
       ] in
-      let next = below_multiple low.q ((high.q + 1) * 2 ^ e) p (omega (arith, low.starts, stops, high.covers,
-          meet.0)) in
+      let next = below_multiple low.q ((high.q + 1) * 2 ^ e) p (omega (
+        arith,
+        low.starts,
+        stops,
+        high.covers,
+        meet.0,
+      )) in
       let to : a + c ≤ b + d = elim high.full [
         | inl power ↦ omega (arith, low.starts, low.covers, stops, next, power)
         | inr end ↦ omega (arith, low.ends, end)

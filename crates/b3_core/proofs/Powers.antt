@@ -47,12 +47,16 @@ below_power (suc n) = omega (arith, double n, below_power n, pow_pos n)
 pub cancel : (x y p : ℕ) → x * p ≡ y * p → 0 < p → x ≡ y
 cancel x y p same some =
     elim (cases_lt x y) [
-      | inl less ↦ absurd (omega (arith,
-          below_multiple x y p (omega (arith, mul-le (x + 1) p y p (omega arith) (omega arith)))))
+      | inl less ↦ absurd (omega (
+        arith,
+        below_multiple x y p (omega (arith, mul-le (x + 1) p y p (omega arith) (omega arith))),
+      ))
       | inr more ↦
           elim (cases_lt y x) [
-            | inl less ↦ absurd (omega (arith,
-                below_multiple y x p (omega (arith, mul-le (y + 1) p x p (omega arith) (omega arith)))))
+            | inl less ↦ absurd (omega (
+              arith,
+              below_multiple y x p (omega (arith, mul-le (y + 1) p x p (omega arith) (omega arith))),
+            ))
             | inr none ↦ omega arith
           ]
     ]
@@ -66,9 +70,13 @@ not_above a j k Q q lowest starts =
           let e = k - suc j in
           let sum : k ≡ suc j + e = omega arith in
           let high : a ≡ (q * 2 ^ e) * 2 ^ suc j = starts ∙ ap (λ (i : ℕ). q * 2 ^ i) sum
-              ∙ lower_multiple q (suc j) e in
-          let even : (2 * Q + 1) * 2 ^ j ≡ (2 * (q * 2 ^ e)) * 2 ^ j = omega (arith, lowest, high,
-              ap (λ (p : ℕ). q * 2 ^ e * p) (double j)) in
+          ∙ lower_multiple q (suc j) e in
+          let even : (2 * Q + 1) * 2 ^ j ≡ (2 * (q * 2 ^ e)) * 2 ^ j = omega (
+            arith,
+            lowest,
+            high,
+            ap (λ (p : ℕ). q * 2 ^ e * p) (double j),
+          ) in
           let same : 2 * Q + 1 ≡ 2 * (q * 2 ^ e) = cancel (2 * Q + 1) (2 * (q * 2 ^ e)) (2 ^ j) even (pow_pos j) in
           absurd (omega arith)
     ]
@@ -82,8 +90,12 @@ clear_below (suc j) n clear =
     let even : m ≡ m / 2 * 2 = omega (arith, clear j (omega arith)) in
     let half : n / 2 ^ suc j ≡ m / 2 = ap (λ (i : ℕ). n / 2 ^ i) (omega arith) ∙ sym (shr-shr n j 1) in
     let double : 2 ^ suc j ≡ 2 * 2 ^ j = omega (arith, pow-suc 2 j) in
-    let wide : n ≡ m / 2 * 2 ^ suc j = omega (arith, before, ap (λ (x : ℕ). x * 2 ^ j) even,
-        ap (λ (p : ℕ). m / 2 * p) double) in
+    let wide : n ≡ m / 2 * 2 ^ suc j = omega (
+      arith,
+      before,
+      ap (λ (x : ℕ). x * 2 ^ j) even,
+      ap (λ (p : ℕ). m / 2 * p) double,
+    ) in
     wide ∙ ap (λ (x : ℕ). x * 2 ^ suc j) (sym half)
 
 -- a number that is not 0 is an odd multiple of its lowest bit

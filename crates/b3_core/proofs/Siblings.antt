@@ -67,9 +67,9 @@ module _ (n : ℕ) where
             let twice : 2 ^ suc k ≡ 2 * c = omega (arith, double k) in
             let multiple : a ≡ ((2 * Q + 1) * 2 ^ e) * (2 * c) =
             lowest ∙ ap (λ (i : ℕ). (2 * Q + 1) * 2 ^ i) sum ∙ lower_multiple (2 * Q + 1) (suc k) e
-                ∙ ap (λ (x : ℕ). ((2 * Q + 1) * 2 ^ e) * x) twice in
+            ∙ ap (λ (x : ℕ). ((2 * Q + 1) * 2 ^ e) * x) twice in
             let divides : a % (2 * c) ≡ 0 = ap (λ (x : ℕ). x % (2 * c)) multiple
-                ∙ mul-mod_left ((2 * Q + 1) * 2 ^ e) (2 * c) in
+            ∙ mul-mod_left ((2 * Q + 1) * 2 ^ e) (2 * c) in
             elim (cases_lt (a + c) n) [
               | inl room ↦ absurd (not_left room divides)
               | inr none ↦ inr (omega (arith, lowest))
@@ -207,8 +207,8 @@ IsSubtree-had n a c some h =
           let (k, covers, least) = next_power c more in
           let p = 2 ^ k in
           let tests : IsSubtree n a c
-              → (1 ≤ c) × (a + c ≤ n) × (a % p ≡ 0)
-              × ((c ≡ p) ⊎ (a + c ≡ n)) = λ s. tests-from_IsSubtree n a c p some (k, refl) covers (omega arith) s in
+          → (1 ≤ c) × (a + c ≤ n) × (a % p ≡ 0)
+          × ((c ≡ p) ⊎ (a + c ≡ n)) = λ s. tests-from_IsSubtree n a c p some (k, refl) covers (omega arith) s in
           elim (cases_lt n (a + c)) [
             | inl past ↦ absurd (not_there h (λ s. let t = (tests s).1 in omega arith))
             | inr ends ↦
@@ -216,12 +216,16 @@ IsSubtree-had n a c some h =
                   | inr off ↦ absurd (not_there h (λ s. off (tests s).2))
                   | inl starts ↦
                       elim (cases_eq c p) [
-                        | inl full ↦ IsSubtree-from_tests n a c p (k,
-                            refl) covers (omega arith) more ends starts (inl full)
+                        | inl full ↦ IsSubtree-from_tests n a c p (
+                          k,
+                          refl,
+                        ) covers (omega arith) more ends starts (inl full)
                         | inr part ↦
                             elim (cases_eq (a + c) n) [
-                              | inl last ↦ IsSubtree-from_tests n a c p (k,
-                                  refl) covers (omega arith) more ends starts (inr last)
+                              | inl last ↦ IsSubtree-from_tests n a c p (
+                                k,
+                                refl,
+                              ) covers (omega arith) more ends starts (inr last)
                               | inr before ↦ absurd (not_there h (λ s. elim ((tests s).3) [ inl e ↦ part e | inr e ↦ before e ]))
                             ]
                       ]

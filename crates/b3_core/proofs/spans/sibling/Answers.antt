@@ -11,8 +11,11 @@ returns-then-span-n-clause-only c = λ other siblings.
     let (up, short) = has_parent c.args.n c.args.span other c.requires.some siblings in
     elim c.then-span-n.branch [
       | then-span-n-via-then-span-n w ↦ absurd (omega (arith, short, w.if-span-n.true))
-      | then-span-n-via-else-span-n+then-not-is_subtree w ↦ absurd (search (rules, w.is_subtree.ensures.1 up,
-          w.if-not-is_subtree.true))
+      | then-span-n-via-else-span-n+then-not-is_subtree w ↦ absurd (search (
+        rules,
+        w.is_subtree.ensures.1 up,
+        w.if-not-is_subtree.true,
+      ))
     ]
 
 pub overflow_add-end : goal.overflow_add-end
