@@ -5,6 +5,7 @@
 # `make compare` runs it beside the installed b3sum, on the same inputs, trees and lists.
 # `make faults` runs it against full devices, closed streams, broken lists, odd names and files that change.
 # `make refused` refuses each growth of memory in turn.
+# `make soak` runs it for two minutes on random trees and lists, with outputs, memory and descriptors that fail it.
 # `make bench` times it and the installed b3sum.
 
 PREFIX = /usr/local
@@ -16,7 +17,7 @@ CPU := $(if $(shell grep -m 1 -o -w avx2 /proc/cpuinfo 2>/dev/null),--cpu=x86-64
 # With the folders, which are newer than the program once a file of theirs came or went.
 SOURCES := crates.txt $(shell find crates/*/ -mindepth 1 \( -name out -o -name must-fail \) -prune -o -print)
 
-.PHONY: all install uninstall test compare faults refused bench clean
+.PHONY: all install uninstall test compare faults refused soak bench clean
 
 all: b3sum
 
@@ -45,6 +46,9 @@ faults: b3sum
 refused: b3sum
 	tools/refused-memory
 	tools/refused-tests
+
+soak: b3sum
+	tools/soak
 
 bench: b3sum
 	tools/bench

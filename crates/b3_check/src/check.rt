@@ -160,7 +160,8 @@ impl Checker {
         ensures run { Runs self.old.limits (list_script self.old.quiet name.now) (D.scene desk.old)
             (D.scene desk.new) result }
         ensures count { IfOk result (λ tally. counted tally ≤ 1 + self.old.limits.largest) }
-        ensures shelf_count { (D.scene desk.new).failures ≤ (D.scene desk.old).failures + (1 + self.old.limits.largest) }
+        ensures shelf_count { (D.scene desk.new).failures
+            ≤ (D.scene desk.old).failures + (1 + self.old.limits.largest) }
         ensures loans { D.loans desk.new ≡ D.loans desk.old }
         ensures quiet { self.new.quiet ≡ self.old.quiet }
         ensures limits { self.new.limits ≡ self.old.limits }

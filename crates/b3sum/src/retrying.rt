@@ -10,7 +10,6 @@ use std::io::{self, ErrorKind, Read, Write};
 const TRIES: u32 = 1_000;
 
 /// Reads, as `Read::read` does.
-
 pub fn read_retrying<R: Read>(reader: &mut R, room: &mut [u8]) -> io::Result<usize>
     ensures bound { ReadsAtMost result room.new }
     ensures room { length room.new ≡ length room.old }

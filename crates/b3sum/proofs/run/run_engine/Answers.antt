@@ -9,5 +9,6 @@ returns-in_err-names-in-Sum-clause-fault g c =
 
 pub returns-in_err-lists-in-Check-clause-fault : goal.returns-in_err-lists-in-Check-clause-fault
 returns-in_err-lists-in-Check-clause-fault g c =
-    let p = err_from_is_err_and c.from_residual-in_err-lists-in-Check.result c.from_residual-in_err-lists-in-Check.ensures.1 in
+    let residual = c.from_residual-in_err-lists-in-Check in
+    let p = err_from_is_err_and residual.result residual.ensures.1 in
     rw p.1 (stopped_at_once _ _ _ p.2)

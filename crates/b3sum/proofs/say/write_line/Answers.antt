@@ -10,7 +10,8 @@ returns-in_err-write_all-clause-err g c =
 
 pub returns-in_err-write_all-2-clause-err : goal.returns-in_err-write_all-2-clause-err
 returns-in_err-write_all-2-clause-err g c =
-    let p = err_from_is_err_and c.from_residual-in_err-write_all-2.result c.from_residual-in_err-write_all-2.ensures.1 in
+    let residual = c.from_residual-in_err-write_all-2 in
+    let p = err_from_is_err_and residual.result residual.ensures.1 in
     let first = rw c.as_bytes.ensures.value at c.in_ok-write_all.ensures.ok in
     let part = rw c.as_bytes-2.ensures.value at c.in_err-write_all-2.ensures.err in
     rw p.1 (GainsBeginning-longer _ _ _ _ (GainsBeginning-append _ _ _ _ _ first part))

@@ -6,7 +6,12 @@ use Rattle.b3sum.proofs.stop.Stop.say.Goals as goal
 
 pub returns-in-NotText : goal.returns-in-NotText
 returns-in-NotText g c =
-    rw c.in-NotText.is (record { whole = c.say_line.result; said = c.say_line.ensures; out_kept = refl; status_is = refl })
+    rw c.in-NotText.is (record {
+      whole = c.say_line.result;
+      said = c.say_line.ensures;
+      out_kept = refl;
+      status_is = refl;
+    })
 
 pub returns-in-TooManyFiles : goal.returns-in-TooManyFiles
 returns-in-TooManyFiles g c =
