@@ -19,7 +19,7 @@ use Rattle.std.proofs.Math.Nat.{lt-div-mul-add, pow-le-pow_right}
 use Rattle.std.specs.Int.{IsPowerOfTwo, div_ceil}
 use Rattle.b3_core.proofs.Grid.{IsSubtree-from_InGrid}
 use Rattle.b3_core.proofs.Powers.{double, exponent, lower_multiple, next_power}
-use Rattle.b3_board.proofs.Parts.{part-length}
+use Rattle.b3_board.proofs.SpanBytes.{part-length}
 use Rattle.b3_core.proofs.Siblings.{IsSubtree-had}
 use Rattle.b3_board.proofs.Steps.{has_sum}
 

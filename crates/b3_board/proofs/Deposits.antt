@@ -12,7 +12,7 @@ use Rattle.b3_board.specs.declared.entries.Entry.{Entry}
 use Rattle.b3_board.specs.declared.entries.State.TheVariants.{Open}
 use Rattle.b3_board.proofs.Filtered.{All-filter_map, Contains-from_place, place-from_Contains}
 use Rattle.b3_board.proofs.Picturing.{kept_is_span, kept_span, kept_spans, open_is, picture_of, times_kept}
-use Rattle.b3_board.proofs.Roots.{loses_span}
+use Rattle.b3_board.proofs.OpenSpans.{loses_span}
 
 -- an entry that is open is one of the open spans, and the other way round
 pub Contains-open : (es : List Entry) (i : ℕ) (s : Span) → i < length es → (at es i).state ≡ Open → (at es i).span ≡ s

@@ -1,5 +1,5 @@
--- The node of a subtree from those of its two children.
-pub mod Parts
+-- The bytes of a span, and the node of a subtree from those of its two children.
+pub mod SpanBytes
 -- A search by halves among ascending entries.
 pub mod Finding
 -- The sibling of a piece among the pieces.
@@ -8,8 +8,8 @@ pub mod Partners
 pub mod Steps
 -- A board on which all spans are open is lawful.
 pub mod Cuttings
--- With nothing open there is the root alone, and the other way round.
-pub mod Roots
+-- The open spans: with none there is the root alone, and the other way round; and what closing one leaves.
+pub mod OpenSpans
 -- What a list keeps of another, by `filter_map`: each element, one by one, and sums.
 pub mod Filtered
 -- The picture of a lawful board is lawful.

@@ -16,7 +16,7 @@ use Rattle.b3_board.specs.declared.entries.State.{State}
 use Rattle.b3_board.specs.declared.entries.State.TheVariants.{Open, Kept, Joined}
 use Rattle.b3_board.specs.Entries.{at, nothing, has_chunk, kept_chunk, kept_count, open_count, open_span, if_kept, if_open, some_open, is_kept, is_joined, IsInOrder, FitsState, KeepsTop, Sound, Lawful, Apart, ApartBut, IsJoined, joined, closed, widened, emptied, kept_node}
 use Rattle.b3_board.specs.Spans.{IsNodeOf, IsSubtreeSpan, has, top_of}
-use Rattle.b3_board.proofs.Parts.{top-part}
+use Rattle.b3_board.proofs.SpanBytes.{top-part}
 use Rattle.b3_board.proofs.Partners.{what_is_kept}
 use Rattle.b3_core.proofs.Siblings.{Kids-from_AreChildren}
 

@@ -2,7 +2,7 @@ use Rattle.std.proofs.Common.{rules, arith, refl, sym, ap, ◌∙◌}
 use Rattle.std.proofs.lemmas.Bool.{false≢true}
 use Rattle.b3_board.specs.Entries.{at, is_kept}
 use Rattle.b3_board.proofs.Partners.{what_is_kept}
-use Rattle.b3_board.proofs.Roots.{none_open, root_there, root_top}
+use Rattle.b3_board.proofs.OpenSpans.{none_open, root_there, root_top}
 use Rattle.b3_board.proofs.merging.root_of.Goals as goal
 use Rattle.b3_board.proofs.merging.root_of.Goals.{then-is_empty-via-then-is_empty, then-is_empty-via-else-is_empty+then-entries-size}
 

@@ -2,7 +2,7 @@ use Rattle.std.proofs.Common.{inl, inr, length, arith, ap}
 use Rattle.std.proofs.lemmas.Bool.{cases_lt}
 use Rattle.std.proofs.lemmas.List.{get_or_past}
 use Rattle.b3_board.specs.Entries.{nothing, open_span}
-use Rattle.b3_board.proofs.Roots.{all_kept}
+use Rattle.b3_board.proofs.OpenSpans.{all_kept}
 use Rattle.b3_board.proofs.merging.settle_all.Goals as goal
 
 pub returns-clause-none : goal.returns-clause-none

@@ -1,5 +1,5 @@
 use Rattle.std.proofs.Common.{inl, inr, refl}
-use Rattle.b3_board.proofs.Roots.{open_inside, same_length, still_closed}
+use Rattle.b3_board.proofs.OpenSpans.{open_inside, same_length, still_closed}
 use Rattle.b3_board.proofs.merging.settle_if_open.Goals as goal
 
 pub top_of-node-requires-clause-inside : goal.top_of-node-requires-clause-inside

@@ -13,7 +13,7 @@ use Rattle.b3_board.specs.Spans.{has}
 use Rattle.b3_board.specs.declared.entries.State.TheVariants.{Open}
 use Rattle.b3_board.proofs.Deposits.{Contains-open, deposited, not_open}
 use Rattle.b3_board.proofs.Picturing.{lawful_picture, picture_of}
-use Rattle.b3_board.proofs.Roots.{open_inside, same_length}
+use Rattle.b3_board.proofs.OpenSpans.{open_inside, same_length}
 use Rattle.b3_board.proofs.board.Board.deposit.Goals as goal
 
 pub returns-in_default-clause-ok : goal.returns-in_default-clause-ok

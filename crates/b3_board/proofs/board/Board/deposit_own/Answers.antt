@@ -11,7 +11,7 @@ use Rattle.b3_board.specs.Spans.{has}
 use Rattle.b3_board.specs.declared.entries.State.TheVariants.{Open}
 use Rattle.b3_board.proofs.Deposits.{Contains-open, deposited, not_open}
 use Rattle.b3_board.proofs.Picturing.{lawful_picture, picture_of}
-use Rattle.b3_board.proofs.Roots.{same_length}
+use Rattle.b3_board.proofs.OpenSpans.{same_length}
 use Rattle.b3_board.proofs.board.Board.deposit_own.Goals as goal
 
 pub returns-in_default-clause-ok : goal.returns-in_default-clause-ok

@@ -1,4 +1,4 @@
--- The node of a subtree from those of its two children.
+-- The bytes of a span, and the node of a subtree from those of its two children.
 use Rattle.std.proofs.Common.{◌≡◌, ℕ, suc, ◌+◌, ◌-◌, ◌*◌, ◌^◌, ◌<◌, ◌≤◌, min, List, length, take, drop, arith, sym, ap, ◌∙◌, length-drop}
 use Rattle.std.proofs.lemmas.List.{length-take, take-take, drop-drop, drop-take}
 use Rattle.b3_core.specs.Nodes.{chaining}

@@ -1,4 +1,4 @@
--- With nothing open there is the root alone, and the other way round.
+-- The open spans: with none there is the root alone, and the other way round; and what closing one leaves.
 use Rattle.std.proofs.Common.{inl, inr, ◌⊎◌, ◌≡◌, ℕ, zero, suc, ◌+◌, ◌*◌, ◌<◌, ◌≤◌, Bool, true, false, List, [], ◌∷◌, length, map, set, get_or, Option, Some, None, arith, refl, sym, subst, ap, ◌∙◌}
 use Rattle.std.proofs.lemmas.Bool.{cases_lt, cases_eq, false≢true, eq-eqb, ne_eqb}
 use Rattle.std.proofs.Math.ListN.{get_or-map as map_at}
