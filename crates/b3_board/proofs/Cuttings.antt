@@ -84,7 +84,11 @@ module _ (n : ℕ) (spans : List Span) (cutting : IsCutting n spans) where
       ]
 
   none_kept : (i : ℕ) → is_kept (at (map fresh spans) i).state ≡ false
-  none_kept i = elim (at_fresh i) [ inl x ↦ ap (λ (e : Entry). is_kept e.state) x.1 | inr x ↦ ap (λ (e : Entry). is_kept e.state) x ]
+  none_kept i =
+      elim (at_fresh i) [
+        | inl x ↦ ap (λ (e : Entry). is_kept e.state) x.1
+        | inr x ↦ ap (λ (e : Entry). is_kept e.state) x
+      ]
 
 pub lawful_new : (input : List ℕ) (mode : Mode) (first : ℕ) (spans : List Span)
     → IsCutting (chunks (length input)) spans → Lawful input mode first (map fresh spans)
@@ -98,7 +102,10 @@ lawful_new input mode first spans cutting =
             let b = ap (λ (e : Entry). e.span.first) (get_or-map fresh spans j no_span nothing j_short) in
             omega (arith, a, b, rises n spans cutting i j lt j_short);
         fits = λ i. elim (at_fresh n spans cutting i) [
-          | inl x ↦ subst (λ (e : Entry). FitsState e.state e.span.count) (sym x.1) (sym (ne_eqb (get_or spans i no_span).count 0 (λ z. omega (arith, cutting.some i no_span x.0))))
+          | inl x ↦
+              let some = cutting.some i no_span x.0 in
+              let fresh_fits = sym (ne_eqb (get_or spans i no_span).count 0 (λ z. omega (arith, some))) in
+              subst (λ (e : Entry). FitsState e.state e.span.count) (sym x.1) fresh_fits
           | inr x ↦ subst (λ (e : Entry). FitsState e.state e.span.count) (sym x) refl
         ];
         subtrees = λ i. elim (at_fresh n spans cutting i) [
@@ -138,7 +145,8 @@ kept_none spans = sum_map kept_count spans ∙ sum_zero spans
 
 pub span_low : (input : List ℕ) (first : ℕ) (spans : List Span) → IsCutting (chunks (length input)) spans
     → first + chunks (length input) ≤ 2 ^ 54 → (i : ℕ) → i < length spans
-    → first + (get_or spans i no_span).first + chunks (length (part input (get_or spans i no_span).first (get_or spans i no_span).count)) ≤ 2 ^ 54
+    → first + (get_or spans i no_span).first
+    + chunks (length (part input (get_or spans i no_span).first (get_or spans i no_span).count)) ≤ 2 ^ 54
 span_low input first spans cutting low i short =
     let h = span_inside (chunks (length input)) spans cutting i short in
     let len = part-length input (get_or spans i no_span).first (get_or spans i no_span).count in
@@ -150,7 +158,11 @@ pub row_push : (n m c : ℕ) (spans : List Span) → IsRow n m spans → 0 < c �
 row_push n m c spans row some up =
     let s : Span = record { first = m; count = c } in
     let ends = row.ends in
-    let back : (i : ℕ) → i < length (spans ++ s ∷ []) → (i < length spans) ⊎ (length spans ≡ i) = λ i short. elim (cases_lt i (length spans)) [ inl less ↦ inl less | inr more ↦ inr (omega (arith, length_push spans s)) ] in
+    let back : (i : ℕ) → i < length (spans ++ s ∷ []) → (i < length spans) ⊎ (length spans ≡ i) =
+    λ i short. elim (cases_lt i (length spans)) [
+      | inl less ↦ inl less
+      | inr more ↦ inr (omega (arith, length_push spans s))
+    ] in
     record {
       begins = λ i d short. elim (back i short) [
         | inl less ↦ ap (λ (x : Span). x.first) (get_or_append_left spans (s ∷ []) d i less) ∙ row.begins i d less
@@ -160,18 +172,25 @@ row_push n m c spans row some up =
             ∙ take_all i spans (omega arith)))
       ];
       some = λ i d short. elim (back i short) [
-        | inl less ↦ subst (λ (x : Span). 0 < x.count) (sym (get_or_append_left spans (s ∷ []) d i less)) (row.some i d less)
+        | inl less ↦ subst (λ (x : Span). 0 < x.count) (sym (get_or_append_left spans (s ∷ []) d i less))
+            (row.some i d less)
         | inr last ↦ subst (λ (x : Span). 0 < x.count) (sym (get_or_push spans s d i last)) some
       ];
       subtrees = λ i d short. elim (back i short) [
-        | inl less ↦ subst (λ (x : Span). IsSubtreeSpan n x) (sym (get_or_append_left spans (s ∷ []) d i less)) (row.subtrees i d less)
+        | inl less ↦ subst (λ (x : Span). IsSubtreeSpan n x) (sym (get_or_append_left spans (s ∷ []) d i less))
+            (row.subtrees i d less)
         | inr last ↦ subst (λ (x : Span). IsSubtreeSpan n x) (sym (get_or_push spans s d i last)) up
       ];
       ends = omega (arith, sum_by_push (λ (x : Span). x.count) spans s);
     }
 
 pub row_none : (n : ℕ) → IsRow n 0 []
-row_none n = record { begins = λ i d short. absurd (omega arith); some = λ i d short. absurd (omega arith); subtrees = λ i d short. absurd (omega arith); ends = refl }
+row_none n = record {
+  begins = λ i d short. absurd (omega arith);
+  some = λ i d short. absurd (omega arith);
+  subtrees = λ i d short. absurd (omega arith);
+  ends = refl;
+}
 
 -- a span of a grain that is a power of two
 pub grain_subtree : (n k q : ℕ) → 1 ≤ n → q * 2 ^ k < n → IsSubtree n (q * 2 ^ k) (min (2 ^ k) (n - q * 2 ^ k))
@@ -240,8 +259,9 @@ grain_next n g i spans ys some power more lt row is =
     let here : min n (i * g) ≡ i * g = omega arith in
     let there : i * g + min g (n - i * g) ≡ min n ((i + 1) * g) = omega arith in
     let row2 : IsRow n (i * g) spans = subst (λ (m : ℕ). IsRow n m spans) here row in
+    let pushed = grain_push n g i spans some power inside row2 in
     subst (λ (xs : List Span). IsRow n (min n ((i + 1) * g)) xs) (sym is)
-    (subst (λ (m : ℕ). IsRow n m (spans ++ record { first = i * g; count = min g (n - i * g) } ∷ [])) there (grain_push n g i spans some power inside row2))
+    (subst (λ (m : ℕ). IsRow n m (spans ++ record { first = i * g; count = min g (n - i * g) } ∷ [])) there pushed)
 
 pub grain_done : (n g i : ℕ) (spans : List Span) → 0 < g → i ≡ div_ceil n g → IsRow n (min n (i * g)) spans
     → IsRow n n spans
@@ -276,8 +296,9 @@ grain_row n g some power (suc i) le =
     let before = grain_row n g some power i (omega arith) in
     let more : i + 1 ≡ suc i = omega arith in
     let is = map-range_with_len_more (grain_span n g) 0 i i (omega arith) in
-    let next = grain_next n g i (map (grain_span n g) (range_with_len 0 i)) (map (grain_span n g) (range_with_len 0 (i + 1)))
-    some power (power_some g power) (omega arith) before is in
+    let spans = map (grain_span n g) (range_with_len 0 i) in
+    let longer = map (grain_span n g) (range_with_len 0 (i + 1)) in
+    let next = grain_next n g i spans longer some power (power_some g power) (omega arith) before is in
     subst (λ (j : ℕ). IsRow n (min n (j * g)) (map (grain_span n g) (range_with_len 0 j))) more next
 
 pub grain_cutting : (n g : ℕ) → 1 ≤ n → IsPowerOfTwo g → IsCutting n (grain_spans n g)
@@ -291,10 +312,12 @@ pub row_more : (n m i : ℕ) (spans : List Span) → IsRow n m (take i spans) �
 row_more n m i spans row short first_is some up =
     let s = get_or spans i no_span in
     let c = (get_or spans i no_span).count in
-    let same : ◌≡◌ {A = Span} (record { first = m; count = c }) (get_or spans i no_span) = λ j. record { first = sym first_is j; count = c } in
+    let same : ◌≡◌ {A = Span} (record { first = m; count = c }) (get_or spans i no_span) =
+    λ j. record { first = sym first_is j; count = c } in
     let up2 : IsSubtree n m c = subst (λ (x : ℕ). IsSubtree n x c) first_is up in
     let pushed = row_push n m c (take i spans) row some ∣ up2 ∣₁ in
-    let is : take i spans ++ record { first = m; count = c } ∷ [] ≡ take (i + 1) spans = ap (λ (x : Span). take i spans ++ x ∷ []) same ∙ sym (take_more spans i no_span short) in
+    let is : take i spans ++ record { first = m; count = c } ∷ [] ≡ take (i + 1) spans =
+    ap (λ (x : Span). take i spans ++ x ∷ []) same ∙ sym (take_more spans i no_span short) in
     subst (λ (xs : List Span). IsRow n (m + c) xs) is pushed
 
 pub row_next : (n m i : ℕ) (spans : List Span) → 1 ≤ n → IsCutting n spans → IsRow n m (take i spans) → i < length spans

@@ -30,7 +30,8 @@ not_open es s none there =
 -- a span of the board that was closed is deposited
 pub deposited : (input : List ℕ) (mode : Mode) (first : ℕ) (es fs : List Entry) (place : ℕ) (s : Span) (book : ℕ)
     → (at es place).state ≡ Open → (at es place).span ≡ s → map open_span fs ≡ set (map open_span es) place None
-    → ((k : ℕ) → sum_by (kept_chunk k) fs ≡ sum_by (kept_chunk k) es + has k (at es place).span.first (at es place).span.count)
+    → ((k : ℕ) → sum_by (kept_chunk k) fs
+    ≡ sum_by (kept_chunk k) es + has k (at es place).span.first (at es place).span.count)
     → IsDeposit (picture_of input mode first es book) s (picture_of input mode first fs (book + s.count))
 deposited input mode first es fs place s book state_is span_is opens chunks = record {
   input_stays = refl;
@@ -57,7 +58,8 @@ none_open-from_nil es nil i =
           elim (option_cases (open_span (at es i))) [
             | inl none ↦ none
             | inr (s, is) ↦
-                let (k, lt, there) = subst (λ (ss : List Span). Contains ss s) nil (Contains-from_place open_span es nothing s i short is) in
+                let one = Contains-from_place open_span es nothing s i short is in
+                let (k, lt, there) = subst (λ (ss : List Span). Contains ss s) nil one in
                 absurd (omega arith)
           ]
     ]
@@ -90,4 +92,6 @@ pub open_ascending : (es : List Entry) → IsInOrder es → IsAscending (open_sp
 open_ascending es up = ascending open_span (λ e s is. (open_is e.state e.span s is).1) es up
 
 pub pieces_ascending : (es : List Entry) → IsInOrder es → IsAscending (map (λ (p : Piece). p.span) (pieces es))
-pieces_ascending es up = subst IsAscending (sym (kept_spans es)) (ascending kept_span (λ e s is. (kept_is_span e.state e.span s is).1) es up)
+pieces_ascending es up =
+    subst IsAscending (sym (kept_spans es))
+    (ascending kept_span (λ e s is. (kept_is_span e.state e.span s is).1) es up)

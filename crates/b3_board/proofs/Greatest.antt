@@ -70,8 +70,9 @@ module _ (picture : Picture) (lawful : IsLawful picture) where
 
   tree : (a c : ℕ) → P a c → IsSubtree n a c
   tree a c p =
+      let one_of_all = Contains-append_right picture.open_spans spans (span a c) p in
       IsSubtree-had n a c (omega arith)
-      (All-contains (IsSubtreeSpan n) (all_spans picture) (span a c) lawful.subtrees (Contains-append_right picture.open_spans spans (span a c) p))
+      (All-contains (IsSubtreeSpan n) (all_spans picture) (span a c) lawful.subtrees one_of_all)
 
   apart : (a l b r : ℕ) → P a l → P b r → AreChildren n a l b r → ⊥
   apart a l b r p q kids =

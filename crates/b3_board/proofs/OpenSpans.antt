@@ -81,14 +81,18 @@ module _ (input : List ℕ) (mode : Mode) (first : ℕ) (es : List Entry) (lawfu
   tree_at i kept = IsSubtree-had n _ _ (omega arith) (lawful.sound.subtrees i (kept_some _ _ kept (lawful.sound.fits i)))
 
   tree : (a c : ℕ) → P a c → IsSubtree n a c
-  tree a c (i, (kept, begins, counts)) = subst (λ (x : ℕ). IsSubtree n a x) counts (subst (λ (x : ℕ). IsSubtree n x (at es i).span.count) begins (tree_at i kept))
+  tree a c (i, (kept, begins, counts)) =
+      let begun = subst (λ (x : ℕ). IsSubtree n x (at es i).span.count) begins (tree_at i kept) in
+      subst (λ (x : ℕ). IsSubtree n a x) counts begun
 
   apart : (a l b r : ℕ) → P a l → P b r → AreChildren n a l b r → ⊥
   apart a l b r (i, (i_kept, i_first, i_count)) (j, (j_kept, j_first, j_count)) kids =
+      let s = (at es i).span in
+      let t = (at es j).span in
       let one = subst (λ (x : ℕ). AreChildren n x l b r) (sym i_first) kids in
-      let two = subst (λ (x : ℕ). AreChildren n (at es i).span.first x b r) (sym i_count) one in
-      let three = subst (λ (x : ℕ). AreChildren n (at es i).span.first (at es i).span.count x r) (sym j_first) two in
-      let four = subst (λ (x : ℕ). AreChildren n (at es i).span.first (at es i).span.count (at es j).span.first x) (sym j_count) three in
+      let two = subst (λ (x : ℕ). AreChildren n s.first x b r) (sym i_count) one in
+      let three = subst (λ (x : ℕ). AreChildren n s.first s.count x r) (sym j_first) two in
+      let four = subst (λ (x : ℕ). AreChildren n s.first s.count t.first x) (sym j_count) three in
       lawful.apart i j i_kept j_kept four
 
   covers : NoneOpen es → (k : ℕ) → k < n → (a : ℕ) × (c : ℕ) × P a c × (a ≤ k) × (k < a + c)
@@ -109,7 +113,10 @@ module _ (input : List ℕ) (mode : Mode) (first : ℕ) (es : List Entry) (lawfu
   root_there none =
       let (i, (kept, begins, counts)) = has_whole n (omega arith) P tree apart (covers none) in
       let short = kept_short es i kept in
-      let front : i ≡ 0 = elim (cases_lt 0 i) [ inl later ↦ let h = lawful.sound.in_order 0 i later short in absurd (omega arith) | inr now ↦ omega arith ] in (
+      let front : i ≡ 0 = elim (cases_lt 0 i) [
+        | inl later ↦ let h = lawful.sound.in_order 0 i later short in absurd (omega arith)
+        | inr now ↦ omega arith
+      ] in (
         ap (λ (x : ℕ). is_kept (at es x).state) (sym front) ∙ kept,
         ap (λ (x : ℕ). (at es x).span.count) (sym front)
             ∙ counts,
@@ -144,28 +151,37 @@ module _ (input : List ℕ) (mode : Mode) (first : ℕ) (es : List Entry) (lawfu
       let ends = at_zero.ends in
       let begins : (at es 0).span.first ≡ 0 = omega arith in
       let same : first + (at es 0).span.first ≡ first = omega arith in
-      let all : part input (at es 0).span.first (at es 0).span.count ≡ input = (λ i. part input (begins i) (counts i)) ∙ take_all (1024 * n) input (omega arith) in
+      let all : part input (at es 0).span.first (at es 0).span.count ≡ input =
+      (λ i. part input (begins i) (counts i)) ∙ take_all (1024 * n) input (omega arith) in
       (lawful.sound.tops 0 x is).0 ∙ (λ i. top mode (same i) (all i))
 
   pub open_inside : (i : ℕ) → (at es i).state ≡ Open
       → ((at es i).span.first + (at es i).span.count ≤ n) × (0 < (at es i).span.count)
   open_inside i is =
       let there : is_joined (at es i).state ≡ false = ap is_joined is in
-      let some : 0 < (at es i).span.count = elim (cases_lt 0 (at es i).span.count) [ inl more ↦ more | inr zero_count ↦ absurd (false≢true (sym there ∙ lawful.sound.fits i ∙ eq-eqb (at es i).span.count 0 (omega arith))) ] in
-      let at_i = InGrid-from_IsSubtree n (omega arith) (IsSubtree-had n _ _ (omega arith) (lawful.sound.subtrees i some)) in
+      let some : 0 < (at es i).span.count = elim (cases_lt 0 (at es i).span.count) [
+        | inl more ↦ more
+        | inr zero_count ↦
+            let empty = lawful.sound.fits i ∙ eq-eqb (at es i).span.count 0 (omega arith) in
+            absurd (false≢true (sym there ∙ empty))
+      ] in
+      let subtree = IsSubtree-had n _ _ (omega arith) (lawful.sound.subtrees i some) in
+      let at_i = InGrid-from_IsSubtree n (omega arith) subtree in
       (at_i.ends, some)
 
   -- with nothing open all chunks are in pieces
   pub all_kept : NoneOpen es → sum_by kept_count es ≡ n
   all_kept none =
-      let zero_open : sum_by open_count es ≡ 0 = sum_of_none open_count es (λ i. closed_zero (at es i).state (at es i).span (none i)) in
+      let zero_open : sum_by open_count es ≡ 0 =
+      sum_of_none open_count es (λ i. closed_zero (at es i).state (at es i).span (none i)) in
       omega (arith, lawful.sound.all)
 
 -- the open spans after one was closed
 pub still_closed : (es fs : List Entry) (p : ℕ) → p < length es → map open_span fs ≡ set (map open_span es) p None
     → (i : ℕ) → (i ≡ p) ⊎ (open_span (at es i) ≡ None) → open_span (at fs i) ≡ None
 still_closed es fs p short is i which =
-    let there : open_span (at fs i) ≡ get_or (set (map open_span es) p None) i None = sym (map_at open_span fs i nothing) ∙ ap (λ (os : List (Option Span)). get_or os i None) is in
+    let there : open_span (at fs i) ≡ get_or (set (map open_span es) p None) i None =
+    sym (map_at open_span fs i nothing) ∙ ap (λ (os : List (Option Span)). get_or os i None) is in
     elim (cases_eq i p) [
       | inl same ↦ there ∙ ap (λ (x : ℕ). get_or (set (map open_span es) p None) x None) same
           ∙ get_or-set_same (map open_span es) p None None (rw (length-map es open_span) short)
@@ -206,5 +222,7 @@ loses_span es fs p s is span opens =
     let was : get_or (map open_span es) p None ≡ Some s =
     map_at open_span es p nothing ∙ (λ i. some_open (is i) (span i)) in
     let h = lost (map open_span es) p s was in
-    let gone = subst (λ (os : List (Option Span)). LosesSpan (filter_map (λ o. o) (map open_span es)) s (filter_map (λ o. o) os)) (sym opens) h in
+    let P : List (Option Span) → Type 0 =
+    λ os. LosesSpan (filter_map (λ o. o) (map open_span es)) s (filter_map (λ o. o) os) in
+    let gone = subst P (sym opens) h in
     rw (filter_map-map open_span es, filter_map-map open_span fs) at gone

@@ -28,7 +28,8 @@ sibling_numbers n s t u some x y = one_sibling n s.first s.count t.first t.count
 pub none_there : (n : ℕ) (es : List Entry) (s t : Span) → 1 ≤ n → AreSiblings n s t
     → ((i : ℕ) → i < length es → (at es i).span.first ≢ t.first)
     → (k : ℕ) → is_kept (at es k).state ≡ true → AreSiblings n s (at es k).span → ⊥
-none_there n es s t some is none k kept sibling = none k (kept_short es k kept) (sym (sibling_numbers n s t (at es k).span some is sibling).0)
+none_there n es s t some is none k kept sibling =
+    none k (kept_short es k kept) (sym (sibling_numbers n s t (at es k).span some is sibling).0)
 
 -- the entry that begins there is another
 pub other_there : (n : ℕ) (es : List Entry) (s t : Span) → 1 ≤ n → IsInOrder es → AreSiblings n s t → (place : ℕ)
@@ -88,12 +89,20 @@ siblings_fit n s t some (inr x) = let k = Kids-from_AreChildren n _ _ _ _ some x
 pub under : (n : ℕ) (es : List Entry) (i j : ℕ) → 1 ≤ n → IsInOrder es → i < length es → j < length es
     → AreSiblings n (at es i).span (at es j).span → j < i
     → (j ≢ i) × AreChildren n (at es j).span.first (at es j).span.count (at es i).span.first (at es i).span.count
-under n es i j some up i_short j_short x lt = elim (sided n es i j some up i_short j_short x) [ inl y ↦ absurd (omega (arith, y.0)) | inr y ↦ ((λ same. omega arith), y.1) ]
+under n es i j some up i_short j_short x lt =
+    elim (sided n es i j some up i_short j_short x) [
+      | inl y ↦ absurd (omega (arith, y.0))
+      | inr y ↦ ((λ same. omega arith), y.1)
+    ]
 
 pub over : (n : ℕ) (es : List Entry) (i j : ℕ) → 1 ≤ n → IsInOrder es → i < length es → j < length es
     → AreSiblings n (at es i).span (at es j).span → i ≤ j
     → (i ≢ j) × AreChildren n (at es i).span.first (at es i).span.count (at es j).span.first (at es j).span.count
-over n es i j some up i_short j_short x le = elim (sided n es i j some up i_short j_short x) [ inl y ↦ ((λ same. omega (arith, y.0)), y.1) | inr y ↦ absurd (omega (arith, y.0)) ]
+over n es i j some up i_short j_short x le =
+    elim (sided n es i j some up i_short j_short x) [
+      | inl y ↦ ((λ same. omega (arith, y.0)), y.1)
+      | inr y ↦ absurd (omega (arith, y.0))
+    ]
 
 kept_joined : (s : State) → is_kept s ≡ true → is_joined s ≡ true → ⊥
 kept_joined Joined h g = false≢true h

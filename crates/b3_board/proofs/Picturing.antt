@@ -150,9 +150,10 @@ module _ (input : List ℕ) (mode : Mode) (first : ℕ) (es : List Entry) (lawfu
 
   subtrees : All (IsSubtreeSpan n) (open_spans es ++ map (λ (p : Piece). p.span) (pieces es))
   subtrees =
+      let kept_ones = All-filter_map kept_span (IsSubtreeSpan n) es nothing subtree_kept in
       All-append (IsSubtreeSpan n) (open_spans es) (map (λ (p : Piece). p.span) (pieces es))
       (All-filter_map open_span (IsSubtreeSpan n) es nothing subtree_open)
-      (subst (All (IsSubtreeSpan n)) (sym (kept_spans es)) (All-filter_map kept_span (IsSubtreeSpan n) es nothing subtree_kept))
+      (subst (All (IsSubtreeSpan n)) (sym (kept_spans es)) kept_ones)
 
   joined_has_none : (k i : ℕ) → is_joined (at es i).state ≡ true → has_chunk k (at es i) ≡ 0
   joined_has_none k i gone =
@@ -162,8 +163,8 @@ module _ (input : List ℕ) (mode : Mode) (first : ℕ) (es : List Entry) (lawfu
   once : (k : ℕ) → k < n → times k (open_spans es ++ map (λ (p : Piece). p.span) (pieces es)) ≡ 1
   once k lt =
       let g : Span → ℕ = λ s. has k s.first s.count in
-      let both = sum_by-both (λ (e : Entry). if_open e.state (g e.span)) (λ (e : Entry). if_kept e.state (g e.span)) (has_chunk k) es nothing
-      (λ i short. shared g (at es i).state (at es i).span (joined_has_none k i)) in
+      let both = sum_by-both (λ (e : Entry). if_open e.state (g e.span)) (λ (e : Entry). if_kept e.state (g e.span))
+      (has_chunk k) es nothing (λ i short. shared g (at es i).state (at es i).span (joined_has_none k i)) in
       sum_by-append g (open_spans es) (map (λ (p : Piece). p.span) (pieces es))
       ∙ omega (arith, sum_open g es, sum_kept g es, both, lawful.sound.once k lt)
 

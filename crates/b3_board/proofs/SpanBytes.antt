@@ -26,7 +26,10 @@ back_part input a l r b next =
     ∙ ap (λ (k : ℕ). take (1024 * r) (drop k input)) place
 
 pub top-part : (input : List ℕ) (mode : Mode) (first a l b r : ℕ) → AreChildren (chunks (length input)) a l b r
-    → top mode (first + a) (part input a (l + r)) ≡ parent_node mode (chaining (top mode (first + a) (part input a l))) (chaining (top mode (first + b) (part input b r)))
+    → top mode (first + a) (part input a (l + r))
+    ≡ parent_node mode
+    (chaining (top mode (first + a) (part input a l)))
+    (chaining (top mode (first + b) (part input b r)))
 top-part input mode first a l b r kids =
     let n = chunks (length input) in
     let k = Kids-from_AreChildren n a l b r (omega arith) kids in
@@ -37,6 +40,9 @@ top-part input mode first a l b r kids =
     let joined = top-joined k.j mode (first + a) (part input a (l + r)) (omega (arith, more, power)) fits in
     let e = sym power in
     let there : first + a + 2 ^ k.j ≡ first + b = omega (arith, k.next, power) in
-    let front : take (1024 * 2 ^ k.j) (part input a (l + r)) ≡ part input a l = ap (λ (p : ℕ). take (1024 * p) (part input a (l + r))) e ∙ front_part input a l r in
-    let back : drop (1024 * 2 ^ k.j) (part input a (l + r)) ≡ part input b r = ap (λ (p : ℕ). drop (1024 * p) (part input a (l + r))) e ∙ back_part input a l r b k.next in
-    joined ∙ (λ i. parent_node mode (chaining (top mode (first + a) (front i))) (chaining (top mode (there i) (back i))))
+    let front : take (1024 * 2 ^ k.j) (part input a (l + r)) ≡ part input a l =
+    ap (λ (p : ℕ). take (1024 * p) (part input a (l + r))) e ∙ front_part input a l r in
+    let back : drop (1024 * 2 ^ k.j) (part input a (l + r)) ≡ part input b r =
+    ap (λ (p : ℕ). drop (1024 * p) (part input a (l + r))) e ∙ back_part input a l r b k.next in
+    joined
+    ∙ (λ i. parent_node mode (chaining (top mode (first + a) (front i))) (chaining (top mode (there i) (back i))))

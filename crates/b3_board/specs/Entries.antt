@@ -147,7 +147,8 @@ abbrev pub closed : List Entry → ℕ → KeptNode → List Entry
 closed es i kept = slice_set es i (record { span = (at es i).span; state = Kept kept })
 
 -- the piece at `here` and its sibling became the piece at `place`
-pub record IsJoined (input : List ℕ) (mode : Mode) (first : ℕ) (es : List Entry) (here : ℕ) (fs : List Entry) (place : ℕ) : Type 0 where
+pub record IsJoined (input : List ℕ) (mode : Mode) (first : ℕ) (es : List Entry) (here : ℕ)
+    (fs : List Entry) (place : ℕ) : Type 0 where
   pub inside : place < length fs
   pub kept : is_kept (at fs place).state ≡ true
   pub sound : Sound input mode first fs
@@ -167,7 +168,8 @@ NoneOpen es = (i : ℕ) → open_span (at es i) ≡ None
 
 -- what the fields of a board keep: they are of the named input, mode and first chunk, the entries are
 -- lawful, and the chunks of the pieces add up to the book
-pub record KeepsBoard (own_input : List ℕ) (own_mode : Mode) (own_first : ℕ) (input : List ℕ) (mode : Mode) (first : ℕ) (es : List Entry) (book : ℕ) : Type 0 where
+pub record KeepsBoard (own_input : List ℕ) (own_mode : Mode) (own_first : ℕ)
+    (input : List ℕ) (mode : Mode) (first : ℕ) (es : List Entry) (book : ℕ) : Type 0 where
   pub input_is : input ≡ own_input
   pub mode_is : mode ≡ own_mode
   pub first_is : first ≡ own_first

@@ -59,7 +59,8 @@ impl<'a, L: Planned> Model for Board<'a, L> {
       book = board.account.chunks;
     } };
 
-    ghost invariant = { λ board. KeepsBoard L.input L.mode L.first board.tree.input.now board.tree.mode board.tree.first board.entries.items board.account.chunks };
+    ghost invariant = { λ board. KeepsBoard L.input L.mode L.first
+        board.tree.input.now board.tree.mode board.tree.first board.entries.items board.account.chunks };
 }
 
 impl<'a, L: Planned> Board<'a, L> {
@@ -96,7 +97,8 @@ impl<'a, L: Planned> Board<'a, L> {
     pub fn deposit(&mut self, done: Done<'a>, share: &mut Share<L>) -> Result<(), Refused<'a>>
         ensures ok { IsOk result ↔ (Contains self.old.open_spans done.entry.span × IsOwn self.old done.entry) }
         ensures not_open { ¬ Contains self.old.open_spans done.entry.span → result ≡ Err (NotOpen done.entry) }
-        ensures other_bytes { Contains self.old.open_spans done.entry.span → ¬ IsOwn self.old done.entry → result ≡ Err (OtherBytes done.entry) }
+        ensures other_bytes { Contains self.old.open_spans done.entry.span → ¬ IsOwn self.old done.entry
+            → result ≡ Err (OtherBytes done.entry) }
         ensures step { OnOk result (IsDeposit self.old done.entry.span self.new) }
         ensures share { OnOk result (share.new ≡ grown share.old done.entry.span.count) }
         ensures unchanged { OnErr result (self.new ≡ self.old) }
@@ -217,7 +219,8 @@ impl<'a, L: Planned> Board<'a, L> {
     /// The root, once no span is open. It hashes nothing.
     pub fn root(&self) -> Option<Root>
         ensures there { IsSome result ↔ (self.now.open_spans ≡ []) }
-        ensures root { IfSome result (λ root. root ≡ record { node = top self.now.mode self.now.first self.now.input; kept = true }) }
+        ensures root { IfSome result (λ root.
+            root ≡ record { node = top self.now.mode self.now.first self.now.input; kept = true }) }
         ensures own { IsOver L.input L.mode L.first self.now }
     {
         let Some(node) = root_of(self.entries.as_slice(), &self.tree) else {

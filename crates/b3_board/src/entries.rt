@@ -69,7 +69,8 @@ pub(crate) fn find(entries: &[Entry], first: u64) -> Option<usize>
 // The place of an open span.
 pub(crate) fn find_open(entries: &[Entry], span: Span) -> Option<usize>
     requires { IsInOrder entries.now }
-    ensures found { IfSome result (λ i. (i < length entries.now) × ((at entries.now i).state ≡ State.Open) × ((at entries.now i).span ≡ span)) }
+    ensures found { IfSome result (λ i. (i < length entries.now) × ((at entries.now i).state ≡ State.Open)
+        × ((at entries.now i).span ≡ span)) }
     ensures none { IfNone result ((i : ℕ) → (at entries.now i).state ≡ State.Open → (at entries.now i).span ≢ span) }
 {
     let Some(place) = find(entries, span.first) else {

@@ -33,7 +33,12 @@ impl<'a> Job<'a> {
     pub(crate) fn new(tree: &Tree<'a>, span: Span) -> Job<'a>
         requires inside { span.first + span.count ≤ chunks (length tree.now.input.now) }
         requires some { 0 < span.count }
-        ensures { result ≡ record { span = span; bytes = part tree.now.input.now span.first span.count; mode = tree.now.mode; first = tree.now.first } }
+        ensures { result ≡ record {
+          span = span;
+          bytes = part tree.now.input.now span.first span.count;
+          mode = tree.now.mode;
+          first = tree.now.first;
+        } }
     {
         Job {
             span,
@@ -79,7 +84,13 @@ impl<'a> Model for Done<'a> {
 
     ghost Value = { Hashed };
 
-    ghost view = { λ done. record { span = done.span; bytes = done.bytes.now; mode = done.mode; first = done.first; node = done.node } };
+    ghost view = { λ done. record {
+      span = done.span;
+      bytes = done.bytes.now;
+      mode = done.mode;
+      first = done.first;
+      node = done.node;
+    } };
 }
 
 impl<'a> Done<'a> {
@@ -102,7 +113,8 @@ impl<'a> Done<'a> {
     pub(crate) fn is_of(&self, tree: &Tree<'a>) -> bool
         requires inside { self.now.span.first + self.now.span.count ≤ chunks (length tree.now.input.now) }
         requires some { 0 < self.now.span.count }
-        ensures { IsTrue result ↔ ((self.now.bytes ≡ part tree.now.input.now self.now.span.first self.now.span.count) × (self.now.mode ≡ tree.now.mode) × (self.now.first ≡ tree.now.first)) }
+        ensures { IsTrue result ↔ ((self.now.bytes ≡ part tree.now.input.now self.now.span.first self.now.span.count)
+            × (self.now.mode ≡ tree.now.mode) × (self.now.first ≡ tree.now.first)) }
     {
         self.first == tree.first && self.mode == tree.mode && self.bytes == tree.part(self.span)
     }

@@ -20,8 +20,10 @@ fn partner(entries: &[Entry], n: u64, here: usize) -> Option<usize>
     requires in_order { IsInOrder entries.now }
     requires inside { here < length entries.now }
     requires subtree { IsSubtree n (at entries.now here).span.first (at entries.now here).span.count }
-    ensures found { IfSome result (λ j. (j < length entries.now) × (is_kept (at entries.now j).state ≡ true) × AreSiblings n (at entries.now here).span (at entries.now j).span) }
-    ensures none { IfNone result ((k : ℕ) → is_kept (at entries.now k).state ≡ true → ¬ AreSiblings n (at entries.now here).span (at entries.now k).span) }
+    ensures found { IfSome result (λ j. (j < length entries.now) × (is_kept (at entries.now j).state ≡ true)
+        × AreSiblings n (at entries.now here).span (at entries.now j).span) }
+    ensures none { IfNone result ((k : ℕ) → is_kept (at entries.now k).state ≡ true
+        → ¬ AreSiblings n (at entries.now here).span (at entries.now k).span) }
 {
     let Some(other) = sibling(n, entries[here].span) else {
         return None;
@@ -91,7 +93,8 @@ fn join_siblings(entries: &mut [Entry], tree: &Tree, here: usize, other: usize) 
     requires other_inside { other < length entries.old }
     requires kept { is_kept (at entries.old here).state ≡ true }
     requires other_kept { is_kept (at entries.old other).state ≡ true }
-    requires siblings { AreSiblings (chunks (length tree.now.input.now)) (at entries.old here).span (at entries.old other).span }
+    requires siblings { AreSiblings (chunks (length tree.now.input.now))
+        (at entries.old here).span (at entries.old other).span }
     requires sound { Sound tree.now.input.now tree.now.mode tree.now.first entries.old }
     requires apart { ApartBut (chunks (length tree.now.input.now)) here entries.old }
     ensures { IsJoined tree.now.input.now tree.now.mode tree.now.first entries.old here entries.new result }
@@ -131,7 +134,8 @@ pub(crate) fn settle(entries: &mut [Entry], tree: &Tree, place: usize, kept: Kep
     requires chaining { kept.chaining_value ≡ chaining kept.node }
     requires lawful { Lawful tree.now.input.now tree.now.mode tree.now.first entries.old }
     ensures lawful { Lawful tree.now.input.now tree.now.mode tree.now.first entries.new }
-    ensures chunks { (k : ℕ) → sum_by (kept_chunk k) entries.new ≡ sum_by (kept_chunk k) entries.old + has k (at entries.old place).span.first (at entries.old place).span.count }
+    ensures chunks { (k : ℕ) → sum_by (kept_chunk k) entries.new
+        ≡ sum_by (kept_chunk k) entries.old + has k (at entries.old place).span.first (at entries.old place).span.count }
     ensures count { sum_by kept_count entries.new ≡ sum_by kept_count entries.old + (at entries.old place).span.count }
     ensures opens { map open_span entries.new ≡ slice_set (map open_span entries.old) place None }
 {

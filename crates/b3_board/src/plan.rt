@@ -36,7 +36,12 @@ impl<'a> Model for Plan<'a> {
 
     ghost Value = { Outline };
 
-    ghost view = { λ plan. record { input = plan.tree.input.now; mode = plan.tree.mode; first = plan.tree.first; spans = plan.spans.items } };
+    ghost view = { λ plan. record {
+      input = plan.tree.input.now;
+      mode = plan.tree.mode;
+      first = plan.tree.first;
+      spans = plan.spans.items;
+    } };
 }
 
 impl<'a> Plan<'a> {
@@ -95,7 +100,8 @@ impl<'a> Plan<'a> {
         mode: Mode,
         spans: &[Span],
     ) -> Result<Plan<'a>, BoardFault>
-        ensures plan { IfOk result (λ plan. plan ≡ record { input = input.now; mode = mode; first = 0; spans = spans.now }) }
+        ensures plan { IfOk result (λ plan.
+            plan ≡ record { input = input.now; mode = mode; first = 0; spans = spans.now }) }
         ensures refused { (fault : BoardFault) → IsCutFault (length input.now) spans.now fault → result ≡ Err fault }
         ensures only { IfErr result (λ fault. (fault ≡ Memory) ⊎ IsCutFault (length input.now) spans.now fault) }
     {
@@ -111,7 +117,8 @@ impl<'a> Plan<'a> {
         spans: &[Span],
     ) -> Result<Plan<'a>, BoardFault>
         requires { first + chunks (length input.now) ≤ 2 ^ 54 }
-        ensures plan { IfOk result (λ plan. plan ≡ record { input = input.now; mode = mode; first = first; spans = spans.now }) }
+        ensures plan { IfOk result (λ plan.
+            plan ≡ record { input = input.now; mode = mode; first = first; spans = spans.now }) }
         ensures refused { (fault : BoardFault) → IsCutFault (length input.now) spans.now fault → result ≡ Err fault }
         ensures only { IfErr result (λ fault. (fault ≡ Memory) ⊎ IsCutFault (length input.now) spans.now fault) }
     {

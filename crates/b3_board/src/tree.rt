@@ -65,7 +65,8 @@ impl<'a> Tree<'a> {
 
     // Whether the other tree is over the same bytes, in the same mode and at the same first chunk.
     pub(crate) fn is_same(&self, other: &Tree<'a>) -> bool
-        ensures { IsTrue result ↔ ((self.now.input.now ≡ other.now.input.now) × (self.now.mode ≡ other.now.mode) × (self.now.first ≡ other.now.first)) }
+        ensures { IsTrue result ↔ ((self.now.input.now ≡ other.now.input.now) × (self.now.mode ≡ other.now.mode)
+            × (self.now.first ≡ other.now.first)) }
     {
         self.first == other.first && self.mode == other.mode && self.input == other.input
     }
