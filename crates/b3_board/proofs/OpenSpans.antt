@@ -78,7 +78,8 @@ module _ (input : List ℕ) (mode : Mode) (first : ℕ) (es : List Entry) (lawfu
   P a c = (i : ℕ) × Piece es a c i
 
   pub tree_at : (i : ℕ) → is_kept (at es i).state ≡ true → IsSubtree n (at es i).span.first (at es i).span.count
-  tree_at i kept = IsSubtree-had n _ _ (omega arith) (lawful.sound.subtrees i (kept_some _ _ kept (lawful.sound.fits i)))
+  tree_at i kept =
+      IsSubtree-had n _ _ (omega arith) (lawful.sound.subtrees i (kept_some _ _ kept (lawful.sound.fits i)))
 
   tree : (a c : ℕ) → P a c → IsSubtree n a c
   tree a c (i, (kept, begins, counts)) =

@@ -5,7 +5,6 @@ use Rattle.std.proofs.lemmas.List.{get_or-set_same, get_or-set_other, length-set
 use Rattle.std.proofs.lemmas.List.Sums.{sum_by-set}
 use Rattle.std.specs.List.{sum_by}
 use Rattle.b3_core.specs.Nodes.{chaining}
-use Rattle.b3_core.specs.Subtrees.{AreChildren}
 use Rattle.b3_core.specs.Tree.{chunks, parent_node}
 use Rattle.b3_core.specs.declared.modes.Mode.{Mode}
 use Rattle.b3_core.specs.declared.nodes.Node.{Node}
@@ -14,7 +13,7 @@ use Rattle.b3_core.specs.declared.tree.Span.{Span}
 use Rattle.b3_board.specs.declared.entries.Entry.{Entry}
 use Rattle.b3_board.specs.declared.entries.State.{State}
 use Rattle.b3_board.specs.declared.entries.State.TheVariants.{Open, Kept, Joined}
-use Rattle.b3_board.specs.Entries.{at, nothing, has_chunk, kept_chunk, kept_count, open_count, open_span, if_kept, if_open, some_open, is_kept, is_joined, IsInOrder, FitsState, KeepsTop, Sound, Lawful, Apart, ApartBut, IsJoined, joined, closed, widened, emptied, kept_node}
+use Rattle.b3_board.specs.Entries.{at, nothing, has_chunk, kept_chunk, kept_count, open_count, open_span, if_kept, if_open, some_open, is_kept, is_joined, AreChildEntries, IsInOrder, FitsState, KeepsTop, Sound, Lawful, Apart, ApartBut, IsJoined, joined, closed, widened, emptied, kept_node}
 use Rattle.b3_board.specs.Spans.{IsNodeOf, IsSubtreeSpan, has, top_of}
 use Rattle.b3_board.proofs.SpanBytes.{top-part}
 use Rattle.b3_board.proofs.Partners.{what_is_kept}
@@ -119,7 +118,10 @@ kept_is a x e = ap (λ (s : State). kept_or s a) e
 
 -- ---- two siblings joined
 
-module _ (input : List ℕ) (mode : Mode) (first : ℕ) (es : List Entry) (sound : Sound input mode first es) (l r : ℕ) (l_short : l < length es) (r_short : r < length es) (distinct : l ≢ r) (a b : KeptNode) (l_is : (at es l).state ≡ Kept a) (r_is : (at es r).state ≡ Kept b) (kids : AreChildren (chunks (length input)) (at es l).span.first (at es l).span.count (at es r).span.first (at es r).span.count) where
+module _ (input : List ℕ) (mode : Mode) (first : ℕ) (es : List Entry) (sound : Sound input mode first es)
+    (l r : ℕ) (l_short : l < length es) (r_short : r < length es) (distinct : l ≢ r)
+    (a b : KeptNode) (l_is : (at es l).state ≡ Kept a) (r_is : (at es r).state ≡ Kept b)
+    (kids : AreChildEntries (chunks (length input)) (at es l) (at es r)) where
   abbrev n : ℕ
   n = chunks (length input)
 
@@ -156,7 +158,8 @@ module _ (input : List ℕ) (mode : Mode) (first : ℕ) (es : List Entry) (sound
   joined-fits k =
       let kid = Kids-from_AreChildren n _ _ _ _ (omega arith) kids in
       elim (look_two es l r k wide (emptied (at es r)) l_short r_short distinct) [
-        | inl (same, is) ↦ subst (λ (e : Entry). FitsState e.state e.span.count) (sym is) (sym (ne_eqb _ _ (λ none. omega (arith, kid.positive))))
+        | inl (same, is) ↦ subst (λ (e : Entry). FitsState e.state e.span.count) (sym is)
+            (sym (ne_eqb _ _ (λ none. omega (arith, kid.positive))))
         | inr (inl (same, is)) ↦ subst (λ (e : Entry). FitsState e.state e.span.count) (sym is) refl
         | inr (inr (o, p, is)) ↦ subst (λ (e : Entry). FitsState e.state e.span.count) (sym is) (sound.fits k)
       ]
@@ -204,9 +207,11 @@ module _ (input : List ℕ) (mode : Mode) (first : ℕ) (es : List Entry) (sound
   joined-open =
       let first_is : open_span (at es r) ≡ None = ap (λ (s : State). some_open s (at es r).span) r_is in
       let second_is : open_span (at es l) ≡ None = ap (λ (s : State). some_open s (at es l).span) l_is in
-      let kept : at (set es r (emptied (at es r))) l ≡ at es l = get_or-set_other es r l (emptied (at es r)) nothing distinct in
-      open_same (set es r (emptied (at es r))) l wide (rw (length-set es r (emptied (at es r))) l_short) (sym (ap open_span kept ∙ second_is))
-      ∙ open_same es r (emptied (at es r)) r_short (sym first_is)
+      let gone = emptied (at es r) in
+      let kept : at (set es r gone) l ≡ at es l = get_or-set_other es r l gone nothing distinct in
+      let l_inside : l < length (set es r gone) = rw (length-set es r gone) l_short in
+      open_same (set es r gone) l wide l_inside (sym (ap open_span kept ∙ second_is))
+      ∙ open_same es r gone r_short (sym first_is)
 
   joined-tops : (k : ℕ) → KeepsTop input mode first (at after k).state (at after k).span
   joined-tops k =
@@ -220,7 +225,8 @@ module _ (input : List ℕ) (mode : Mode) (first : ℕ) (es : List Entry) (sound
             (λ x x_is. subst (λ (k : KeptNode). IsNodeOf input mode first wide.span k.node
             × (k.chaining_value ≡ chaining k.node)) (kept_is (kept_node node) x x_is) (here, refl))
         | inr (inl (same, is)) ↦
-            subst (λ (e : Entry). KeepsTop input mode first e.state e.span) (sym is) (λ x x_is. absurd (false≢true (ap is_kept x_is)))
+            subst (λ (e : Entry). KeepsTop input mode first e.state e.span) (sym is)
+            (λ x x_is. absurd (false≢true (ap is_kept x_is)))
         | inr (inr (o, p, is)) ↦ subst (λ (e : Entry). KeepsTop input mode first e.state e.span) (sym is) (sound.tops k)
       ]
 
@@ -247,7 +253,8 @@ module _ (input : List ℕ) (mode : Mode) (first : ℕ) (es : List Entry) (sound
   joined-apart free which old i j i_other j_other i_kept j_kept =
       let x = old_piece i i_other i_kept in
       let y = old_piece j j_other j_kept in
-      let moved : AreChildren n (at after i).span.first (at after i).span.count (at after j).span.first (at after j).span.count → AreChildren n (at es i).span.first (at es i).span.count (at es j).span.first (at es j).span.count = λ h. subst (λ (d : Entry). AreChildren n (at es i).span.first (at es i).span.count d.span.first d.span.count) y.1 (subst (λ (e : Entry). AreChildren n e.span.first e.span.count (at after j).span.first (at after j).span.count) x.1 h) in
+      let moved : AreChildEntries n (at after i) (at after j) → AreChildEntries n (at es i) (at es j) =
+      λ h. subst (AreChildEntries n (at es i)) y.1 (subst (λ (e : Entry). AreChildEntries n e (at after j)) x.1 h) in
       let not_free : (k : ℕ) → k ≢ l → k ≢ r
       → k ≢ free = λ k kl kr same. elim which [ inl e ↦ kl (same ∙ e) | inr e ↦ kr (same ∙ e) ] in
       λ h. old i j (not_free i i_other x.0) (not_free j j_other y.0) (sym (ap (λ (e : Entry). is_kept e.state) x.1)
@@ -255,7 +262,10 @@ module _ (input : List ℕ) (mode : Mode) (first : ℕ) (es : List Entry) (sound
 
 -- ---- an open span closed
 
-module _ (input : List ℕ) (mode : Mode) (first : ℕ) (es : List Entry) (lawful : Lawful input mode first es) (i : ℕ) (short : i < length es) (is_open_at : (at es i).state ≡ Open) (kept : KeptNode) (is_top : IsNodeOf input mode first (at es i).span kept.node) (is_chaining : kept.chaining_value ≡ chaining kept.node) where
+module _ (input : List ℕ) (mode : Mode) (first : ℕ) (es : List Entry) (lawful : Lawful input mode first es)
+    (i : ℕ) (short : i < length es) (is_open_at : (at es i).state ≡ Open)
+    (kept : KeptNode) (is_top : IsNodeOf input mode first (at es i).span kept.node)
+    (is_chaining : kept.chaining_value ≡ chaining kept.node) where
   abbrev m : ℕ
   m = chunks (length input)
 
@@ -278,7 +288,8 @@ module _ (input : List ℕ) (mode : Mode) (first : ℕ) (es : List Entry) (lawfu
   closed-fits : (k : ℕ) → FitsState (at next k).state (at next k).span.count
   closed-fits k =
       elim (look_one es i k done short) [
-        | inl (same, is) ↦ subst (λ (e : Entry). FitsState e.state e.span.count) (sym is) (sym (ap is_joined is_open_at) ∙ sound1.fits i)
+        | inl (same, is) ↦ subst (λ (e : Entry). FitsState e.state e.span.count) (sym is)
+            (sym (ap is_joined is_open_at) ∙ sound1.fits i)
         | inr (o, is) ↦ subst (λ (e : Entry). FitsState e.state e.span.count) (sym is) (sound1.fits k)
       ]
 
@@ -344,14 +355,15 @@ module _ (input : List ℕ) (mode : Mode) (first : ℕ) (es : List Entry) (lawfu
 -- ---- nothing is free
 
 pub settled : (n free : ℕ) (es : List Entry) → ApartBut n free es
-    → ((k : ℕ) → is_kept (at es k).state ≡ true → AreChildren n (at es free).span.first (at es free).span.count (at es k).span.first (at es k).span.count ⊎ AreChildren n (at es k).span.first (at es k).span.count (at es free).span.first (at es free).span.count → ⊥)
+    → ((k : ℕ) → is_kept (at es k).state ≡ true
+    → AreChildEntries n (at es free) (at es k) ⊎ AreChildEntries n (at es k) (at es free) → ⊥)
     → Apart n es
 settled n free es but alone i j i_kept j_kept kids =
     elim (cases_eq i free) [
-      | inl i_same ↦ alone j j_kept (inl (subst (λ (x : ℕ). AreChildren n (at es x).span.first (at es x).span.count (at es j).span.first (at es j).span.count) i_same kids))
+      | inl i_same ↦ alone j j_kept (inl (subst (λ (x : ℕ). AreChildEntries n (at es x) (at es j)) i_same kids))
       | inr i_other ↦
           elim (cases_eq j free) [
-            | inl j_same ↦ alone i i_kept (inr (subst (λ (x : ℕ). AreChildren n (at es i).span.first (at es i).span.count (at es x).span.first (at es x).span.count) j_same kids))
+            | inl j_same ↦ alone i i_kept (inr (subst (λ (x : ℕ). AreChildEntries n (at es i) (at es x)) j_same kids))
             | inr j_other ↦ but i j i_other j_other i_kept j_kept kids
           ]
     ]
@@ -360,15 +372,19 @@ settled n free es but alone i j i_kept j_kept kids =
 
 widened_is : (es : List Entry) (l r : ℕ) (node : Node) → l < length es
     → at (joined es l r node) l ≡ widened (at es l) (at es r) node
-widened_is es l r node short = get_or-set_same (set es r (emptied (at es r))) l (widened (at es l) (at es r) node) nothing (rw (length-set es r (emptied (at es r))) short)
+widened_is es l r node short =
+    let gone = emptied (at es r) in
+    let inside : l < length (set es r gone) = rw (length-set es r gone) short in
+    get_or-set_same (set es r gone) l (widened (at es l) (at es r) node) nothing inside
 
 grown : (l r h : ℕ) → 0 < l → 0 < r → (h ≡ l) ⊎ (h ≡ r) → h < l + r
 grown l r h some more (inl e) = omega arith
 grown l r h some more (inr e) = omega arith
 
-pub is_joined_well : (input : List ℕ) (mode : Mode) (first : ℕ) (es : List Entry) (here : ℕ) (fs : List Entry) (l r : ℕ) → l < length es → r < length es → l ≢ r
+pub is_joined_well : (input : List ℕ) (mode : Mode) (first : ℕ) (es : List Entry) (here : ℕ) (fs : List Entry)
+    (l r : ℕ) → l < length es → r < length es → l ≢ r
     → is_kept (at es l).state ≡ true → is_kept (at es r).state ≡ true
-    → AreChildren (chunks (length input)) (at es l).span.first (at es l).span.count (at es r).span.first (at es r).span.count
+    → AreChildEntries (chunks (length input)) (at es l) (at es r)
     → Sound input mode first es → ApartBut (chunks (length input)) here es → (here ≡ l) ⊎ (here ≡ r)
     → ((a b : KeptNode) → (at es l).state ≡ Kept a → (at es r).state ≡ Kept b
     → fs ≡ joined es l r (parent_node mode a.chaining_value b.chaining_value))
@@ -380,8 +396,13 @@ is_joined_well input mode first es here fs l r l_short r_short distinct l_kept r
     let kid = Kids-from_AreChildren (chunks (length input)) _ _ _ _ (omega arith) kids in
     let P : List Entry → Type 0 = λ xs. IsJoined input mode first es here xs l in
     let wide = widened_is es l r node l_short in
-    let counts : ((at es here).span.count ≡ (at es l).span.count) ⊎ ((at es here).span.count ≡ (at es r).span.count) = elim which [ inl e ↦ inl (ap (λ (x : ℕ). (at es x).span.count) e) | inr e ↦ inr (ap (λ (x : ℕ). (at es x).span.count) e) ] in
-    let more : (at es here).span.count < (at es l).span.count + (at es r).span.count = grown _ _ _ kid.positive kid.some counts in
+    let counts : ((at es here).span.count ≡ (at es l).span.count) ⊎ ((at es here).span.count ≡ (at es r).span.count) =
+    elim which [
+      | inl e ↦ inl (ap (λ (x : ℕ). (at es x).span.count) e)
+      | inr e ↦ inr (ap (λ (x : ℕ). (at es x).span.count) e)
+    ] in
+    let more : (at es here).span.count < (at es l).span.count + (at es r).span.count =
+    grown _ _ _ kid.positive kid.some counts in
     subst P (sym (gives a b a_is b_is)) record {
       inside = omega (arith, joined-length input mode first es sound l r l_short r_short distinct a b a_is b_is kids);
       kept = ap (λ (e : Entry). is_kept e.state) wide;

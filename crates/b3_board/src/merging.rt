@@ -134,8 +134,8 @@ pub(crate) fn settle(entries: &mut [Entry], tree: &Tree, place: usize, kept: Kep
     requires chaining { kept.chaining_value ≡ chaining kept.node }
     requires lawful { Lawful tree.now.input.now tree.now.mode tree.now.first entries.old }
     ensures lawful { Lawful tree.now.input.now tree.now.mode tree.now.first entries.new }
-    ensures chunks { (k : ℕ) → sum_by (kept_chunk k) entries.new
-        ≡ sum_by (kept_chunk k) entries.old + has k (at entries.old place).span.first (at entries.old place).span.count }
+    ensures chunks { (k : ℕ) → sum_by (kept_chunk k) entries.new ≡ sum_by (kept_chunk k) entries.old
+        + has k (at entries.old place).span.first (at entries.old place).span.count }
     ensures count { sum_by kept_count entries.new ≡ sum_by kept_count entries.old + (at entries.old place).span.count }
     ensures opens { map open_span entries.new ≡ slice_set (map open_span entries.old) place None }
 {

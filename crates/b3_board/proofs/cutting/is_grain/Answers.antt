@@ -9,6 +9,7 @@ returns c =
     let p = c.next_power_of_two.ensures in (
       λ h. (subst IsPowerOfTwo (eqb-true _ _ h) p.power, omega arith),
       λ grain.
-          let most = least_power c.args.grain c.next_power_of_two.result c.args.grain p.power p.upper_bound grain.0 (omega arith) in
+          let most = least_power c.args.grain c.next_power_of_two.result c.args.grain p.power p.upper_bound grain.0
+          (omega arith) in
           eq-eqb _ _ (omega (arith, most, p.lower_bound)),
     )

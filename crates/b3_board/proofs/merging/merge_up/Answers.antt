@@ -6,5 +6,8 @@ use Rattle.b3_board.proofs.merging.merge_up.Goals as goal
 
 pub partner-requires-clause-subtree : goal.partner-requires-clause-subtree
 partner-requires-clause-subtree c =
-    let up = IsSubtree-had (chunks (length c.args.tree.now.input.now)) _ _ (omega arith) (c.loop-other.invariant.sound.subtrees c.loop-other.here (kept_some _ _ c.loop-other.invariant.kept (c.loop-other.invariant.sound.fits c.loop-other.here))) in
+    let now = c.loop-other.invariant in
+    let here = c.loop-other.here in
+    let subtree = now.sound.subtrees here (kept_some _ _ now.kept (now.sound.fits here)) in
+    let up = IsSubtree-had (chunks (length c.args.tree.now.input.now)) _ _ (omega arith) subtree in
     rw c.size-n.ensures up

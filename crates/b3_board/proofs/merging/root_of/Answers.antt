@@ -22,12 +22,15 @@ returns-then-is_empty-clause-there c = (
 pub returns-in-Kept-clause-top : goal.returns-in-Kept-clause-top
 returns-in-Kept-clause-top c =
     let tree = c.args.tree.now in
-    root_top tree.input.now tree.mode tree.first c.args.entries.now c.requires c.in-Kept.kept c.in-Kept.is (search (rules, c.size.ensures))
+    root_top tree.input.now tree.mode tree.first c.args.entries.now c.requires c.in-Kept.kept c.in-Kept.is
+    (search (rules, c.size.ensures))
 
 pub returns-in-Kept-clause-there : goal.returns-in-Kept-clause-there
 returns-in-Kept-clause-there c =
     let tree = c.args.tree.now in (
-      λ h. none_open tree.input.now tree.mode tree.first c.args.entries.now c.requires (ap is_kept c.in-Kept.is) (search (rules, c.size.ensures)),
+      λ h.
+          none_open tree.input.now tree.mode tree.first c.args.entries.now c.requires (ap is_kept c.in-Kept.is)
+          (search (rules, c.size.ensures)),
       λ h. refl,
     )
 

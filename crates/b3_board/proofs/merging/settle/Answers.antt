@@ -1,4 +1,5 @@
 use Rattle.std.proofs.Common.{ap, ◌∙◌}
+use Rattle.b3_board.specs.declared.entries.Entry.{Entry}
 use Rattle.b3_board.specs.declared.entries.State.TheVariants.{Kept}
 use Rattle.b3_board.specs.Entries.{at, is_kept, nothing}
 use Rattle.std.proofs.lemmas.List.{get_or-set_same}
@@ -6,19 +7,39 @@ use Rattle.b3_board.proofs.Steps.{closed-apart, closed-kept_chunk, closed-kept_c
 use Rattle.b3_board.proofs.merging.settle.Goals as goal
 
 pub merge_up-requires-clause-kept : goal.merge_up-requires-clause-kept
-merge_up-requires-clause-kept c = ap (λ e. is_kept e.state) (get_or-set_same c.args.entries.now c.args.place (record { span = (at c.args.entries.now c.args.place).span; state = Kept c.args.kept }) nothing c.requires.inside)
+merge_up-requires-clause-kept c =
+    let closed : Entry = record { span = (at c.args.entries.now c.args.place).span; state = Kept c.args.kept } in
+    ap (λ e. is_kept e.state) (get_or-set_same c.args.entries.now c.args.place closed nothing c.requires.inside)
 
 pub merge_up-requires-clause-sound : goal.merge_up-requires-clause-sound
-merge_up-requires-clause-sound c = closed-sound c.args.tree.now.input.now c.args.tree.now.mode c.args.tree.now.first c.args.entries.now c.requires.lawful c.args.place c.requires.inside c.requires.open c.args.kept c.requires.top c.requires.chaining
+merge_up-requires-clause-sound c =
+    let tree = c.args.tree.now in
+    closed-sound tree.input.now tree.mode tree.first c.args.entries.now c.requires.lawful c.args.place
+    c.requires.inside c.requires.open c.args.kept c.requires.top c.requires.chaining
 
 pub merge_up-requires-clause-apart : goal.merge_up-requires-clause-apart
-merge_up-requires-clause-apart c = closed-apart c.args.tree.now.input.now c.args.tree.now.mode c.args.tree.now.first c.args.entries.now c.requires.lawful c.args.place c.requires.inside c.requires.open c.args.kept c.requires.top c.requires.chaining
+merge_up-requires-clause-apart c =
+    let tree = c.args.tree.now in
+    closed-apart tree.input.now tree.mode tree.first c.args.entries.now c.requires.lawful c.args.place
+    c.requires.inside c.requires.open c.args.kept c.requires.top c.requires.chaining
 
 pub returns-clause-chunks : goal.returns-clause-chunks
-returns-clause-chunks c = λ k. c.merge_up.ensures.same_chunks k ∙ closed-kept_chunk c.args.tree.now.input.now c.args.tree.now.mode c.args.tree.now.first c.args.entries.now c.requires.lawful c.args.place c.requires.inside c.requires.open c.args.kept c.requires.top c.requires.chaining k
+returns-clause-chunks c = λ k.
+    let tree = c.args.tree.now in
+    c.merge_up.ensures.same_chunks k
+    ∙ closed-kept_chunk tree.input.now tree.mode tree.first c.args.entries.now c.requires.lawful c.args.place
+    c.requires.inside c.requires.open c.args.kept c.requires.top c.requires.chaining k
 
 pub returns-clause-count : goal.returns-clause-count
-returns-clause-count c = c.merge_up.ensures.same_count ∙ closed-kept_count c.args.tree.now.input.now c.args.tree.now.mode c.args.tree.now.first c.args.entries.now c.requires.lawful c.args.place c.requires.inside c.requires.open c.args.kept c.requires.top c.requires.chaining
+returns-clause-count c =
+    let tree = c.args.tree.now in
+    c.merge_up.ensures.same_count
+    ∙ closed-kept_count tree.input.now tree.mode tree.first c.args.entries.now c.requires.lawful c.args.place
+    c.requires.inside c.requires.open c.args.kept c.requires.top c.requires.chaining
 
 pub returns-clause-opens : goal.returns-clause-opens
-returns-clause-opens c = c.merge_up.ensures.same_open ∙ closed-open c.args.tree.now.input.now c.args.tree.now.mode c.args.tree.now.first c.args.entries.now c.requires.lawful c.args.place c.requires.inside c.requires.open c.args.kept c.requires.top c.requires.chaining
+returns-clause-opens c =
+    let tree = c.args.tree.now in
+    c.merge_up.ensures.same_open
+    ∙ closed-open tree.input.now tree.mode tree.first c.args.entries.now c.requires.lawful c.args.place
+    c.requires.inside c.requires.open c.args.kept c.requires.top c.requires.chaining

@@ -14,5 +14,6 @@ returns-clause-none c = λ i. elim (cases_lt i (length c.spans.entries)) [
 pub returns-clause-waiting : goal.returns-clause-waiting
 returns-clause-waiting c =
     let tree = c.args.tree.now in
-    let all = all_kept tree.input.now tree.mode tree.first c.spans.entries c.spans.invariant.lawful (returns-clause-none c) in
+    let now = c.spans.invariant in
+    let all = all_kept tree.input.now tree.mode tree.first c.spans.entries now.lawful (returns-clause-none c) in
     omega (arith, all, c.spans.invariant.count, c.requires.lawful.sound.all)

@@ -14,11 +14,13 @@ top_of-node-requires-clause-some c =
 
 pub returns-in-Open-clause-closed : goal.returns-in-Open-clause-closed
 returns-in-Open-clause-closed c =
-    still_closed c.args.entries.now c.settle.new.entries c.args.place c.requires.inside c.settle.ensures.opens c.args.place (inl refl)
+    still_closed c.args.entries.now c.settle.new.entries c.args.place c.requires.inside c.settle.ensures.opens
+    c.args.place (inl refl)
 
 pub returns-in-Open-clause-others : goal.returns-in-Open-clause-others
 returns-in-Open-clause-others c = λ i closed.
-    still_closed c.args.entries.now c.settle.new.entries c.args.place c.requires.inside c.settle.ensures.opens i (inr closed)
+    still_closed c.args.entries.now c.settle.new.entries c.args.place c.requires.inside c.settle.ensures.opens
+    i (inr closed)
 
 pub returns-in-Open-clause-len : goal.returns-in-Open-clause-len
 returns-in-Open-clause-len c = same_length c.args.entries.now c.settle.new.entries c.args.place c.settle.ensures.opens

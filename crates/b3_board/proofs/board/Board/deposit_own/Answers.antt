@@ -20,7 +20,9 @@ returns-in_default-clause-ok g c =
     let none : (i : ℕ) → (at board.entries.items i).state ≡ Open → (at board.entries.items i).span ≢ c.own.inside.span =
     rw c.as_slice.ensures.value at c.in_default.ensures.none in
     let absent : ¬ Contains c.args.self.now.open_spans c.args.own.span =
-    subst (λ (p : Picture). ¬ Contains p.open_spans c.args.own.span) c.self.view_is (not_open board.entries.items c.args.own.span (λ i state_is span_is. none i state_is (span_is ∙ sym (ap (λ (d : Piece). d.span) c.own.view_is)))) in
+    subst (λ (p : Picture). ¬ Contains p.open_spans c.args.own.span) c.self.view_is
+    (not_open board.entries.items c.args.own.span
+    (λ i state_is span_is. none i state_is (span_is ∙ sym (ap (λ (d : Piece). d.span) c.own.view_is)))) in
     (λ h. absurd (false≢true h), λ own. absurd (absent own))
 
 pub returns-in_default-clause-lawful : goal.returns-in_default-clause-lawful
@@ -28,7 +30,8 @@ returns-in_default-clause-lawful g c =
     let board = c.self.inside in
     let kept = c.self.invariant in
     subst IsLawful c.self.view_is
-    (lawful_picture board.tree.input.now board.tree.mode board.tree.first board.entries.items kept.lawful board.account.chunks kept.booked)
+    (lawful_picture board.tree.input.now board.tree.mode board.tree.first board.entries.items kept.lawful
+    board.account.chunks kept.booked)
 
 pub returns-clause-ok : goal.returns-clause-ok
 returns-clause-ok g c =
@@ -45,27 +48,43 @@ returns-clause-step g c =
     let found = rw c.as_slice.ensures.value at c.in-Some.ensures.found in
     let opens : map open_span c.settle.new.entries ≡ set (map open_span board.entries.items) c.in-Some.place None =
     search (rules, c.settle.ensures.opens, c.as_mut_slice.ensures.value) in
-    let joins : (k : ℕ) → sum_by (kept_chunk k) c.settle.new.entries ≡ sum_by (kept_chunk k) board.entries.items + has k (at board.entries.items c.in-Some.place).span.first (at board.entries.items c.in-Some.place).span.count =
+    let span_is = ap (λ (d : Piece). d.span) c.own.view_is in
+    let closed : Span = (at board.entries.items c.in-Some.place).span in
+    let joins : (k : ℕ) → sum_by (kept_chunk k) c.settle.new.entries
+    ≡ sum_by (kept_chunk k) board.entries.items + has k closed.first closed.count =
     λ k. search (rules, c.settle.ensures.chunks k, c.as_mut_slice.ensures.value) in
-    let step = deposited tree.input.now tree.mode tree.first board.entries.items c.settle.new.entries c.in-Some.place c.args.own.span board.account.chunks found.1 (found.2 ∙ (ap (λ (d : Piece). d.span) c.own.view_is)) opens joins in
-    let booked = subst (λ (b : ℕ). IsDeposit (picture_of tree.input.now tree.mode tree.first board.entries.items board.account.chunks) c.args.own.span (picture_of tree.input.now tree.mode tree.first c.settle.new.entries b)) (sym (c.credit.ensures.chunks ∙ ap (λ (s : Span). board.account.chunks + s.count) (ap (λ (d : Piece). d.span) c.own.view_is))) step in
+    let of : List Entry → ℕ → Picture = picture_of tree.input.now tree.mode tree.first in
+    let step = deposited tree.input.now tree.mode tree.first board.entries.items c.settle.new.entries c.in-Some.place
+    c.args.own.span board.account.chunks found.1 (found.2 ∙ span_is) opens joins in
+    let book_is = c.credit.ensures.chunks ∙ ap (λ (s : Span). board.account.chunks + s.count) span_is in
+    let before = of board.entries.items board.account.chunks in
+    let booked = subst (λ (b : ℕ). IsDeposit before c.args.own.span (of c.settle.new.entries b)) (sym book_is) step in
     let items : (with_items board.entries c.settle.new.entries).items ≡ c.settle.new.entries =
-    with_items_is board.entries c.settle.new.entries (same_length board.entries.items c.settle.new.entries c.in-Some.place opens ∙ sym board.entries.ok.0) in
-    let moved = subst (λ (p : Picture). IsDeposit p c.args.own.span (picture_of tree.input.now tree.mode tree.first c.settle.new.entries c.credit.new.self.chunks)) c.self.view_is booked in
-    subst (λ (es : List Entry). IsDeposit c.args.self.now c.args.own.span (picture_of tree.input.now tree.mode tree.first es c.credit.new.self.chunks)) (sym items) moved
+    with_items_is board.entries c.settle.new.entries
+    (same_length board.entries.items c.settle.new.entries c.in-Some.place opens ∙ sym board.entries.ok.0) in
+    let after = of c.settle.new.entries c.credit.new.self.chunks in
+    let moved = subst (λ (p : Picture). IsDeposit p c.args.own.span after) c.self.view_is booked in
+    let P : List Entry → Type 0 =
+    λ es. IsDeposit c.args.self.now c.args.own.span (of es c.credit.new.self.chunks) in
+    subst P (sym items) moved
 
 pub returns-clause-lawful : goal.returns-clause-lawful
 returns-clause-lawful g c =
     let board = c.self.inside in
     let tree = c.self.inside.tree in
     let found = rw c.as_slice.ensures.value at c.in-Some.ensures.found in
-    let count : sum_by kept_count c.settle.new.entries ≡ sum_by kept_count board.entries.items + (at board.entries.items c.in-Some.place).span.count =
+    let count : sum_by kept_count c.settle.new.entries
+    ≡ sum_by kept_count board.entries.items + (at board.entries.items c.in-Some.place).span.count =
     search (rules, c.settle.ensures.count, c.as_mut_slice.ensures.value) in
     let booked : sum_by kept_count c.settle.new.entries ≡ c.credit.new.self.chunks =
     omega (arith, count, c.self.invariant.booked, c.credit.ensures.chunks, ap (λ (s : Span). s.count) found.2) in
     let opens : map open_span c.settle.new.entries ≡ set (map open_span board.entries.items) c.in-Some.place None =
     search (rules, c.settle.ensures.opens, c.as_mut_slice.ensures.value) in
     let items : (with_items board.entries c.settle.new.entries).items ≡ c.settle.new.entries =
-    with_items_is board.entries c.settle.new.entries (same_length board.entries.items c.settle.new.entries c.in-Some.place opens ∙ sym board.entries.ok.0) in
-    subst (λ (es : List Entry). IsLawful (picture_of tree.input.now tree.mode tree.first es c.credit.new.self.chunks)) (sym items)
-    (lawful_picture tree.input.now tree.mode tree.first c.settle.new.entries c.settle.ensures.lawful c.credit.new.self.chunks booked)
+    with_items_is board.entries c.settle.new.entries
+    (same_length board.entries.items c.settle.new.entries c.in-Some.place opens ∙ sym board.entries.ok.0) in
+    let P : List Entry → Type 0 =
+    λ es. IsLawful (picture_of tree.input.now tree.mode tree.first es c.credit.new.self.chunks) in
+    subst P (sym items)
+    (lawful_picture tree.input.now tree.mode tree.first c.settle.new.entries c.settle.ensures.lawful
+    c.credit.new.self.chunks booked)

@@ -8,4 +8,5 @@ returns-clause-lawful g c =
     let board = c.self.inside in
     let kept = c.self.invariant in
     subst IsLawful c.self.view_is
-    (lawful_picture board.tree.input.now board.tree.mode board.tree.first board.entries.items kept.lawful board.account.chunks kept.booked)
+    (lawful_picture board.tree.input.now board.tree.mode board.tree.first board.entries.items kept.lawful
+    board.account.chunks kept.booked)

@@ -43,4 +43,5 @@ pub returns-clause-lawful : goal.returns-clause-lawful
 returns-clause-lawful g c =
     let plan = c.plan.inside in
     let kept = invariant_of-board g c in
-    lawful_picture plan.tree.input.now plan.tree.mode plan.tree.first c.in_ok-entries.entries.items kept.lawful c.open-account.result.0.chunks kept.booked
+    lawful_picture plan.tree.input.now plan.tree.mode plan.tree.first c.in_ok-entries.entries.items kept.lawful
+    c.open-account.result.0.chunks kept.booked

@@ -14,7 +14,9 @@ pub returns-clause-greatest : goal.returns-clause-greatest
 returns-clause-greatest g c =
     let board = c.self.inside in
     let kept = c.self.invariant in
-    let picture = picture_of board.tree.input.now board.tree.mode board.tree.first board.entries.items board.account.chunks in
+    let tree = board.tree in
+    let picture = picture_of tree.input.now tree.mode tree.first board.entries.items board.account.chunks in
     subst PiecesAreGreatest c.self.view_is
     (pieces_are_greatest picture
-    (lawful_picture board.tree.input.now board.tree.mode board.tree.first board.entries.items kept.lawful board.account.chunks kept.booked))
+    (lawful_picture tree.input.now tree.mode tree.first board.entries.items kept.lawful
+    board.account.chunks kept.booked))

@@ -43,9 +43,13 @@ returns-clause-lawful g c =
     let items : (with_items board.entries c.settle_all-count.new.entries).items ≡ c.settle_all-count.new.entries =
     with_items_is board.entries c.settle_all-count.new.entries (c.settle_all-count.ensures.len
     ∙ ap length c.as_mut_slice.ensures.value ∙ sym board.entries.ok.0) in
-    let count : sum_by kept_count c.settle_all-count.new.entries ≡ sum_by kept_count board.entries.items + c.settle_all-count.result =
+    let count : sum_by kept_count c.settle_all-count.new.entries
+    ≡ sum_by kept_count board.entries.items + c.settle_all-count.result =
     search (rules, c.settle_all-count.ensures.count, c.as_mut_slice.ensures.value) in
     let booked : sum_by kept_count c.settle_all-count.new.entries ≡ c.credit.new.self.chunks =
     omega (arith, count, c.self.invariant.booked, c.credit.ensures.chunks) in
-    subst (λ (es : List Entry). IsLawful (picture_of tree.input.now tree.mode tree.first es c.credit.new.self.chunks)) (sym items)
-    (lawful_picture tree.input.now tree.mode tree.first c.settle_all-count.new.entries c.settle_all-count.ensures.lawful c.credit.new.self.chunks booked)
+    let P : List Entry → Type 0 =
+    λ es. IsLawful (picture_of tree.input.now tree.mode tree.first es c.credit.new.self.chunks) in
+    subst P (sym items)
+    (lawful_picture tree.input.now tree.mode tree.first c.settle_all-count.new.entries
+    c.settle_all-count.ensures.lawful c.credit.new.self.chunks booked)
