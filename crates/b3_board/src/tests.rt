@@ -3,6 +3,7 @@
 ghost use Rattle.std.specs.Prelude.{◌≡◌, ◌<◌, ◌≤◌, ◌^◌, length, IfOk, vec_len};
 ghost use Rattle.b3_board.specs.Plans.{IsPlanOf};
 
+mod memory;
 mod plans;
 
 use super::*;
