@@ -7,6 +7,8 @@
 # `make refused` refuses each growth of memory in turn.
 # `make soak` runs it for two minutes on random trees and lists, with outputs, memory and descriptors that fail it.
 # `make bench` times it and the installed b3sum.
+# `make audit` compares docs/AUDIT.md with the files that it names; `make cheat EDIT=crates/NAME/must-fail/WRONG.edit`
+# tries one wrong body, which the prover must refuse.
 
 PREFIX = /usr/local
 DESTDIR =
@@ -17,7 +19,7 @@ CPU := $(if $(shell grep -m 1 -o -w avx2 /proc/cpuinfo 2>/dev/null),--cpu=x86-64
 # With the folders, which are newer than the program once a file of theirs came or went.
 SOURCES := crates.txt $(shell find crates/*/ -mindepth 1 \( -name out -o -name must-fail \) -prune -o -print)
 
-.PHONY: all install uninstall test compare faults refused soak bench clean
+.PHONY: all install uninstall test compare faults refused soak bench audit cheat clean
 
 all: b3sum
 
@@ -52,6 +54,12 @@ soak: b3sum
 
 bench: b3sum
 	tools/bench
+
+audit:
+	tools/audit
+
+cheat:
+	tools/cheat $(word 2,$(subst /, ,$(EDIT))) $(EDIT)
 
 clean:
 	rm -rf b3sum crates/*/out
