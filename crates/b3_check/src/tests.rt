@@ -5,6 +5,8 @@ ghost use Rattle.b3_check.specs.Options.{CanCheck, CanRun};
 
 mod checks;
 mod devices;
+mod faults;
+mod faulty_files;
 mod memory;
 mod sums;
 

@@ -14,7 +14,7 @@ use std::alloc::Global;
 use std::test::Fail;
 
 // Checks one list with these options.
-fn check_one<S: Shelf, O: Sink, E: Sink>(
+pub fn check_one<S: Shelf, O: Sink, E: Sink>(
     alloc: Global,
     shelf: &mut S,
     list: &str,
@@ -32,7 +32,7 @@ fn check_one<S: Shelf, O: Sink, E: Sink>(
 }
 
 // A list of a right line that ends in CR LF, a wrong one, and one that is cut off; and its two files.
-fn three_lines(alloc: Global) -> Result<MemoryShelf, Fail>
+pub fn three_lines(alloc: Global) -> Result<MemoryShelf, Fail>
     ensures { IfOk result (λ shelf. ⟦<MemoryShelf as Shelf>⟧.failures shelf ≡ 0) }
 {
     let mut shelf = MemoryShelf::new(alloc);
@@ -46,7 +46,7 @@ fn three_lines(alloc: Global) -> Result<MemoryShelf, Fail>
     Ok(shelf)
 }
 
-const THREE_COMPLAINTS: &[u8] =
+pub const THREE_COMPLAINTS: &[u8] =
     b"b3sum: line 3: short line\nb3sum: WARNING: 2 computed checksums did NOT match\n";
 
 #[test]
