@@ -10,5 +10,7 @@ pub mod RunLemmas
 pub mod TaskLemmas
 -- What is read of a file: so far, to its end, and of a name.
 pub mod ReadLemmas
+-- Windows: what is filled of one, and what the windows so far leave.
+pub mod WindowLemmas
 -- Runs over lists of check lines.
 pub mod CheckLemmas

@@ -5,16 +5,13 @@ use Rattle.std.proofs.Math.Seq.{take-append-add}
 use Rattle.std.proofs.lemmas.List.{append-nil, length-take-le, take-append-le, take_all}
 use Rattle.b3_core.specs.Output.{blake3}
 use Rattle.b3_core.specs.Tree.{top}
-use Rattle.b3_core.specs.declared.modes.Mode.{Mode}
-use Rattle.b3_hash.specs.Hashers.{State, StandsFor, length_of, mode_of}
 use Rattle.b3_hash.specs.Readers.{Reader}
-use Rattle.b3_hash.proofs.Standing.{length-StandsFor}
 use Rattle.b3_check.specs.declared.fault.RunFault.{RunFault}
-use Rattle.b3_check.specs.declared.fault.RunFault.TheVariants.{ReadFault, WriteFault, Memory, BadKey, EndlessInput, TooLarge}
+use Rattle.b3_check.specs.declared.fault.RunFault.TheVariants.{ReadFault, WriteFault, Memory, BadKey, EndlessInput}
 use Rattle.b3_check.specs.declared.hashing.Output.{Output}
 use Rattle.b3_check.specs.declared.options.Limits.{Limits}
 use Rattle.b3_check.specs.Contents.{Contents, ContentHas, Gives, HasContent, IsMissing}
-use Rattle.b3_check.specs.Reading.{IsDigestOf, IsOutputOf, IsReadingFault, only_rest}
+use Rattle.b3_check.specs.Reading.{IsDigestOf, IsFaultOfRest, IsOutputOf, IsReadingFault, only_rest}
 use Rattle.b3_check.specs.Scripts.{AgreesWith, Kind, answer_of}
 use Rattle.b3_check.specs.Scripts.Kind.{Hashed, Listed, Key}
 
@@ -71,10 +68,17 @@ rest_fault told limits Hashed name left EndlessInput has cause = rest_has told n
 rest_fault told limits Listed name left EndlessInput has cause =
     rest_has told name left (λ content. (limits.turns ≤ length content) ⊎ (limits.largest < length content)) has cause
 rest_fault told limits Key name left EndlessInput has cause = absurd cause
-rest_fault told limits Hashed name left TooLarge has cause = rest_has told name left
-    (λ content. limits.largest < length content) has cause
-rest_fault told limits Listed name left TooLarge has cause = absurd cause
-rest_fault told limits Key name left TooLarge has cause = absurd cause
+
+-- a fault of what is left of the rest, with the reads that are left, is one of the rest
+pub later_fault : (told : Option Contents) (limits later : Limits) (all left : List ℕ) (fault : RunFault)
+    → (IsSome told → later.turns ≤ length left → limits.turns ≤ length all)
+    → IsFaultOfRest fault told later Hashed left → IsFaultOfRest fault told limits Hashed all
+later_fault told limits later all left ReadFault longer cause = absurd cause
+later_fault told limits later all left WriteFault longer cause = absurd cause
+later_fault told limits later all left Memory longer cause = tt
+later_fault told limits later all left BadKey longer cause = absurd cause
+later_fault None limits later all left EndlessInput longer cause = tt
+later_fault (Some contents) limits later all left EndlessInput longer cause = longer refl cause
 
 -- a fact of the rest, where contents are told
 pub rest_where : (told : Option Contents) (left : List ℕ) (P : List ℕ → Type 0) → (IsSome told → P left)
@@ -129,77 +133,6 @@ pub digest_none : (told : Option Contents) (sure : Bool) (name : List ℕ) (outp
     → AgreesWith told sure Hashed name None
     → IsDigestOf told sure name output None
 digest_none told sure name output agrees = record { answer = None; agrees = agrees; is = refl }
-
--- ---- what is hashed of the rest of a file
-
--- the first bytes of the rest are hashed, by so many reads that gave bytes
-pub record HashedSoFar (told : Option Contents) (all left : List ℕ) (mode : Mode) (state : State)
-    (turn : ℕ) : Type 0 where
-  pub content : List ℕ
-  pub read : ReadSoFar told all left content turn
-  pub stands : StandsFor state content
-  pub mode_is : mode_of state ≡ mode
-
-pub hashed_none : (told : Option Contents) (all : List ℕ) (mode : Mode) (state : State) → StandsFor state []
-    → mode_of state ≡ mode
-    → HashedSoFar told all all mode state 0
-hashed_none told all mode state stands is = record
-    { content = []; read = read_none told all; stands = stands; mode_is = is }
-
--- one more read gives bytes
-pub hashed_more : {told : Option Contents} {all left : List ℕ} {mode : Mode} {state : State} {turn : ℕ} (after : State)
-    (given rest : List ℕ)
-    → HashedSoFar told all left mode state turn → (IsSome told → Gives left given rest) → 0 < length given
-    → ((before : List ℕ) → StandsFor state before → StandsFor after (before ++ given)) → mode_of after ≡ mode_of state
-    → HashedSoFar told all rest mode after (turn + 1)
-hashed_more {told} {all} {left} {mode} {state} {turn} after given rest so_far gives some stands same = record {
-  content = so_far.content ++ given;
-  read = read_more given rest so_far.read gives some;
-  stands = stands so_far.content so_far.stands;
-  mode_is = same ∙ so_far.mode_is;
-}
-
--- one more read gives none
-pub hashed_all : {told : Option Contents} {all left : List ℕ} {mode : Mode} {state : State} {turn : ℕ}
-    (given rest : List ℕ) (output : Reader)
-    → HashedSoFar told all left mode state turn → (IsSome told → Gives left given rest) → given ≡ []
-    → ((input : List ℕ) → StandsFor state input → output ≡ record { node = top (mode_of state) 0 input; place = 0 })
-    → IsOutputOf told all mode output
-hashed_all {told} {all} {left} {mode} {state} {turn} given rest output so_far gives none finished = record {
-  content = so_far.content;
-  whole = read_all given rest so_far.read gives none;
-  output = rw so_far.mode_is at (finished so_far.content so_far.stands);
-}
-
--- more bytes come than may be there
-pub hashed_too_large : {told : Option Contents} {all left : List ℕ} {mode : Mode} {state : State} {turn : ℕ}
-    (given rest : List ℕ) (largest : ℕ)
-    → HashedSoFar told all left mode state turn → (IsSome told → Gives left given rest)
-    → largest < length_of state + length given
-    → ContentHas (only_rest told all) [] (λ content. largest < length content)
-hashed_too_large {told} {all} {left} {mode} {state} {turn} given rest largest so_far gives more =
-    rest_where told all (λ content. largest < length content) (λ is.
-    let content = so_far.content in
-    let parts = ap (λ (xs : List ℕ). length xs) (so_far.read.parts is) in
-    let next = ap (λ (xs : List ℕ). length xs) ((gives is).parts) in
-    omega (
-      arith,
-      parts,
-      next,
-      length-append content left,
-      length-append given rest,
-      length-StandsFor state content
-          so_far.stands,
-      more,
-    ))
-
--- the loop came to its end
-pub hashed_out : {told : Option Contents} {all left : List ℕ} {mode : Mode} {state : State} {turn : ℕ} (turns : ℕ)
-    → HashedSoFar told all left mode state turn → turns ≤ turn
-    → ContentHas (only_rest told all) [] (λ content. turns ≤ length content)
-hashed_out {told} {all} {left} {mode} {state} {turn} turns so_far out =
-    rest_where told all (λ content. turns ≤ length content)
-    (λ is. omega (arith, length-read so_far.read is, so_far.read.many, out))
 
 -- ---- a read behind the first bytes of a room
 

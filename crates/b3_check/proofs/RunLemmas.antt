@@ -9,7 +9,7 @@ use Rattle.b3_check.specs.Sums.{keyed_script, keys_asked, with_mode}
 use Rattle.b3_check.specs.declared.options.Limits.{Limits}
 use Rattle.b3_check.specs.declared.tally.Tally.{Tally}
 use Rattle.b3_check.specs.declared.fault.RunFault.{RunFault}
-use Rattle.b3_check.specs.declared.fault.RunFault.TheVariants.{ReadFault, WriteFault, Memory, BadKey, EndlessInput, TooLarge}
+use Rattle.b3_check.specs.declared.fault.RunFault.TheVariants.{ReadFault, WriteFault, Memory, BadKey, EndlessInput}
 use Rattle.b3_check.specs.Contents.{Contents}
 use Rattle.b3_check.specs.Faults.{is_write_fault}
 use Rattle.b3_check.specs.Tallies.{no_tally, tally_sum}
@@ -145,7 +145,6 @@ caused_asking told limits kind name next WriteFault cause = absurd cause
 caused_asking told limits kind name next Memory cause = tt
 caused_asking told limits kind name next BadKey cause = absurd cause
 caused_asking told limits kind name next EndlessInput cause = cause
-caused_asking told limits kind name next TooLarge cause = cause
 
 -- after an answer
 caused_answered : (told : Option Contents) (limits : Limits) (kind : Kind) (name : List ℕ) (next : Answer → Script)
@@ -157,7 +156,6 @@ caused_answered told limits kind name next x xs WriteFault cause = tt
 caused_answered told limits kind name next x xs Memory cause = tt
 caused_answered told limits kind name next x xs BadKey cause = cause
 caused_answered told limits kind name next x xs EndlessInput cause = cause
-caused_answered told limits kind name next x xs TooLarge cause = cause
 
 -- after a script
 caused_later : (told : Option Contents) (sure : Bool) (limits : Limits) (s : Script) (tally : Tally)
@@ -173,8 +171,6 @@ caused_later told sure limits s tally next xs ys BadKey first whole cause = Fail
     ys BadKey first whole cause
 caused_later told sure limits s tally next xs ys EndlessInput first whole cause = AsksNext-append told sure s tally
     next xs ys _ first whole cause
-caused_later told sure limits s tally next xs ys TooLarge first whole cause = AsksNext-append told sure s tally next xs
-    ys _ first whole cause
 
 -- in a script, where more would have followed
 caused_early : (told : Option Contents) (limits : Limits) (s : Script) (tally : Tally) (next : Tally → Script)
@@ -185,7 +181,6 @@ caused_early told limits s tally next xs WriteFault cause = tt
 caused_early told limits s tally next xs Memory cause = tt
 caused_early told limits s tally next xs BadKey cause = FailsNext-longer s tally next xs BadKey cause
 caused_early told limits s tally next xs EndlessInput cause = AsksNext-longer s tally next xs _ cause
-caused_early told limits s tally next xs TooLarge cause = AsksNext-longer s tally next xs _ cause
 
 -- ---- runs of one step
 

@@ -1,7 +1,7 @@
 -- What a run fault says, and when it comes from a sink.
 use Rattle.std.specs.Prelude.{ℕ, Bool, true, false, List, codes, Result, Ok, Err}
 use Rattle.b3_check.specs.declared.fault.RunFault.{RunFault}
-use Rattle.b3_check.specs.declared.fault.RunFault.TheVariants.{ReadFault, WriteFault, Memory, BadKey, EndlessInput, TooLarge}
+use Rattle.b3_check.specs.declared.fault.RunFault.TheVariants.{ReadFault, WriteFault, Memory, BadKey, EndlessInput}
 
 -- the text of a fault, without a line feed
 abbrev pub fault_text : RunFault → List ℕ
@@ -10,7 +10,6 @@ fault_text WriteFault = codes "b3sum: cannot write"
 fault_text Memory = codes "b3sum: out of memory"
 fault_text BadKey = codes "b3sum: the key is not 32 bytes"
 fault_text EndlessInput = codes "b3sum: endless input"
-fault_text TooLarge = codes "b3sum: input too large"
 
 -- whether a fault comes from a sink
 abbrev pub is_of_sink : RunFault → Bool
@@ -19,7 +18,6 @@ is_of_sink WriteFault = true
 is_of_sink Memory = false
 is_of_sink BadKey = false
 is_of_sink EndlessInput = false
-is_of_sink TooLarge = false
 
 -- whether a run ended because a sink failed
 abbrev pub is_write_fault : {T : Type 0} → Result T RunFault → Bool

@@ -10,5 +10,6 @@ pub mod Sums
 pub mod Checks
 pub mod Tasks
 pub mod Reading
+pub mod Windows
 pub mod MemoryShelves
 pub mod MemorySinks

@@ -8,7 +8,7 @@ use Rattle.b3_core.specs.declared.modes.Mode.{Mode}
 use Rattle.b3_hash.specs.Derivation.{derived_mode}
 use Rattle.b3_hash.specs.Readers.{Reader}
 use Rattle.b3_check.specs.declared.fault.RunFault.{RunFault}
-use Rattle.b3_check.specs.declared.fault.RunFault.TheVariants.{ReadFault, WriteFault, Memory, BadKey, EndlessInput, TooLarge}
+use Rattle.b3_check.specs.declared.fault.RunFault.TheVariants.{ReadFault, WriteFault, Memory, BadKey, EndlessInput}
 use Rattle.b3_check.specs.declared.hashing.Output.{Output}
 use Rattle.b3_check.specs.declared.key.KeyRead.{KeyRead}
 use Rattle.b3_check.specs.declared.options.KeyChoice.{KeyChoice}
@@ -16,7 +16,7 @@ use Rattle.b3_check.specs.declared.options.KeyChoice.TheVariants.{Plain, Keyed, 
 use Rattle.b3_check.specs.declared.options.Limits.{Limits}
 use Rattle.b3_check.specs.Contents.{Contents}
 use Rattle.b3_check.specs.Digests.{digest_of}
-use Rattle.b3_check.specs.Runs.{Broke, IsEndless, IsTooLarge, Scene, Went}
+use Rattle.b3_check.specs.Runs.{Broke, IsEndless, Scene, Went}
 use Rattle.b3_check.specs.Scripts.{AgreesWith, Answer, Kind, nothing}
 use Rattle.b3_check.specs.Scripts.Kind.{Hashed, Key}
 use Rattle.b3_check.specs.Sums.{key_name}
@@ -38,7 +38,6 @@ IsReadingFault WriteFault told limits kind name = ⊥
 IsReadingFault Memory told limits kind name = ⊤
 IsReadingFault BadKey told limits kind name = ⊥
 IsReadingFault EndlessInput told limits kind name = IsEndless told limits kind name
-IsReadingFault TooLarge told limits kind name = IsTooLarge told limits kind name
 
 -- the output is that of all that was left, where contents are told
 pub record IsOutputOf (told : Option Contents) (left : List ℕ) (mode : Mode) (given : Reader) : Type 0 where

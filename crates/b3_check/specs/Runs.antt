@@ -6,7 +6,7 @@ use Rattle.b3_check.specs.declared.shelf.Shelf.{Ghosts as ShelfWords}
 use Rattle.b3_check.specs.declared.sink.Sink.{Ghosts as SinkWords}
 use Rattle.b3_check.specs.declared.tally.Tally.{Tally}
 use Rattle.b3_check.specs.declared.fault.RunFault.{RunFault}
-use Rattle.b3_check.specs.declared.fault.RunFault.TheVariants.{ReadFault, WriteFault, Memory, BadKey, EndlessInput, TooLarge}
+use Rattle.b3_check.specs.declared.fault.RunFault.TheVariants.{ReadFault, WriteFault, Memory, BadKey, EndlessInput}
 use Rattle.b3_check.specs.Contents.{Contents, ContentHas}
 use Rattle.b3_check.specs.Faults.{is_of_sink}
 use Rattle.b3_check.specs.Sinks.{GainsBeginning}
@@ -90,12 +90,6 @@ IsEndless told limits Listed name =
     ContentHas told name (λ content. (limits.turns ≤ length content) ⊎ (limits.largest < length content))
 IsEndless told limits Key name = ⊥
 
--- where contents are told, a file that is hashed has more than `largest` bytes
-abbrev pub IsTooLarge : Option Contents → Limits → Kind → List ℕ → Type 0
-IsTooLarge told limits Hashed name = ContentHas told name (λ content. limits.largest < length content)
-IsTooLarge told limits Listed name = ⊥
-IsTooLarge told limits Key name = ⊥
-
 -- why a fault comes: it is the script's own, or comes from what is asked for next, or from want of
 -- memory or a sink
 abbrev pub IsCausedBy : RunFault → Option Contents → Limits → Script → List Answer → Type 0
@@ -104,7 +98,6 @@ IsCausedBy WriteFault told limits script answers = ⊤
 IsCausedBy Memory told limits script answers = ⊤
 IsCausedBy BadKey told limits script answers = FailsNext script answers BadKey
 IsCausedBy EndlessInput told limits script answers = AsksNext script answers (IsEndless told limits)
-IsCausedBy TooLarge told limits script answers = AsksNext script answers (IsTooLarge told limits)
 
 -- the run stopped at a fault: for one list of answers to the names whose answer was complete before
 -- it, the sinks gained beginnings of the report so far

@@ -33,7 +33,8 @@ pub trait Desk {
         limits: Limits,
     ) -> Result<bool, RunFault>
         requires room { HasRoom (scene self.old) 1 }
-        requires largest { limits.largest ≤ 2 ^ 30 }
+        requires some_turns { 0 < limits.turns }
+        requires turns { limits.turns ≤ 2 ^ 40 }
         ensures hashed { Hashes digester.old.output limits name.now (scene self.old)
             (scene self.new) digester.new.digest.items result }
         ensures output { digester.new.output ≡ digester.old.output }

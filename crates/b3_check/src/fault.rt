@@ -24,8 +24,6 @@ pub enum RunFault {
     /// A file had not ended after as many reads as it may take, or a list has more bytes than it may
     /// have.
     EndlessInput = 5,
-    /// A file that is hashed has more bytes than it may have.
-    TooLarge = 6,
 }
 
 impl RunFault {
@@ -39,7 +37,6 @@ impl RunFault {
             RunFault::Memory => "b3sum: out of memory",
             RunFault::BadKey => "b3sum: the key is not 32 bytes",
             RunFault::EndlessInput => "b3sum: endless input",
-            RunFault::TooLarge => "b3sum: input too large",
         }
     }
 }

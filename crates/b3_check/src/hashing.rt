@@ -1,18 +1,30 @@
 //! A name hashed: from the beginning of its file to its digest.
 
-ghost use Rattle.std.specs.Prelude.{◌≡◌, ◌+◌, ◌-◌, ◌^◌, ◌<◌, ◌≤◌, false, true, IsTrue, IsSome, IfOk, IfErr, MatchOption, length, vec_len};
+ghost use Rattle.std.specs.Prelude.{◌≡◌, ◌≢◌, ℕ, ◌+◌, ◌-◌, ◌*◌, ◌/◌, ◌%◌, ◌^◌, ◌<◌, ◌≤◌, ◌++◌, Ok, List, drop, length, take, false, IsTrue, IsSome, IfOk, IfErr, MatchOption, OnOk, vec_len};
 ghost use Rattle.b3_core.specs.Output.{output_bytes};
+ghost use Rattle.b3_core.specs.Tree.{chunks, top};
+ghost use Rattle.b3_hash.specs.Hashers.{StandsFor, length_of, mode_of};
 ghost use Rattle.b3_check.specs.Faults.{is_write_fault};
 ghost use Rattle.b3_check.specs.Reading.{IsDigestOf, IsFaultOfRest, IsOutputOf, IsReadingFault, found_if, is_unread, unread_count};
 ghost use Rattle.b3_check.specs.Scripts.Kind.{Hashed};
+ghost use Rattle.b3_check.specs.Windows.{failed_reads, filled_bytes};
+ghost use Rattle.b3_check.specs.declared.buffer.TheConstants.{WINDOW_LEN};
+ghost use Rattle.b3_check.specs.declared.room.TheConstants.{READ_LEN};
+ghost use Rattle.b3_check.specs.declared.window.Found.TheVariants.{Failed, Last, More};
 
+use crate::buffer::{Buffer, WINDOW_LEN, WINDOW_LEVEL};
 use crate::fault::RunFault;
 use crate::options::Limits;
-use crate::room::{READ_LEN, zeros};
+use crate::room::zeros;
 use crate::shelf::Shelf;
-use b3_core::Mode;
+use crate::window::{Found, fill};
+use b3_core::{Mode, Node};
 use b3_hash::{Hasher, Xof};
 use std::alloc::{AllocError, Global};
+use std::mem;
+
+/// How many bytes a chunk has.
+const CHUNK_LEN: u64 = 1_024;
 
 /// Which bytes of which output of a content are wanted.
 #[derive(Drop)]
@@ -25,14 +37,16 @@ pub struct Output {
     pub length: u32,
 }
 
-/// Hashes names, one after the other. A file is hashed as it is read: no content is kept.
+/// Hashes names, one after the other. A file is hashed window by window, as it is read, over the same two
+/// buffers: no content is kept.
 #[derive(Drop)]
 pub struct Digester {
     output: Output,
-    room: Vec<u8>,
+    // the window at hand, and the one that begins behind it
+    current: Buffer,
+    next: Buffer,
     digest: Vec<u8>,
     ghost in_output: { output.seek + output.length ≤ 2 ^ 64 - 1 },
-    ghost has_room: { 0 < vec_len room },
     ghost digest_len: { vec_len digest ≡ output.length },
 }
 
@@ -45,7 +59,8 @@ impl Digester {
         let digest = zeros(alloc, output.length as usize)?;
         Ok(Digester {
             output,
-            room: zeros(alloc, READ_LEN)?,
+            current: Buffer::new(alloc)?,
+            next: Buffer::new(alloc)?,
             digest,
         })
     }
@@ -59,8 +74,7 @@ impl Digester {
     }
 
     /// Hashes the content of a name (BLAKE3 (2020), 2.6), and answers whether it can be read. A run
-    /// fault comes where the content has more than `limits` allow, or has not ended after as many
-    /// reads.
+    /// fault comes where the content has not ended after as many reads as `limits` allow.
     pub fn hash_name<S: Shelf>(
         &mut self,
         shelf: &mut S,
@@ -68,7 +82,8 @@ impl Digester {
         limits: Limits,
     ) -> Result<bool, RunFault>
         requires count { S.failures shelf.old < 2 ^ 64 - 1 }
-        requires largest { limits.largest ≤ 2 ^ 30 }
+        requires some_turns { 0 < limits.turns }
+        requires turns { limits.turns ≤ 2 ^ 40 }
         ensures digest { IfOk result (λ whole. IsDigestOf (S.told shelf.old) (S.is_sure shelf.old)
             name.now self.old.output (found_if whole self.new.digest.items)) }
         ensures fault { IfErr result (λ fault. IsReadingFault fault (S.told shelf.old) limits Hashed name.now) }
@@ -81,12 +96,96 @@ impl Digester {
         if shelf.begin(name).is_err() {
             return Ok(false);
         }
-        let read = hash_rest(shelf, self.room.as_mut_slice(), self.output.mode, limits)?;
-        let Some(output) = read else {
+        let Some(output) = self.hash_rest(shelf, limits)? else {
             return Ok(false);
         };
         self.take_digest(output);
         Ok(true)
+    }
+
+    // Hashes what is left of the file that is begun, and answers its output, or nothing where it cannot be
+    // read.
+    fn hash_rest<S: Shelf>(
+        &mut self,
+        shelf: &mut S,
+        limits: Limits,
+    ) -> Result<Option<Xof>, RunFault>
+        requires count { S.failures shelf.old < 2 ^ 64 - 1 }
+        requires some_turns { 0 < limits.turns }
+        requires turns { limits.turns ≤ 2 ^ 40 }
+        ensures whole { IfOk result (λ read. MatchOption read (S.is_sure shelf.old ≡ false)
+            (λ output. IsOutputOf (S.told shelf.old) (S.left shelf.old) self.old.output.mode output)) }
+        ensures fault { IfErr result (λ fault. IsFaultOfRest fault (S.told shelf.old) limits Hashed (S.left shelf.old)) }
+        ensures no_sink { is_write_fault result ≡ false }
+        ensures count { S.failures shelf.new ≡ S.failures shelf.old + is_unread result }
+        ensures told { S.told shelf.new ≡ S.told shelf.old }
+        ensures still_sure { S.is_sure shelf.new ≡ S.is_sure shelf.old }
+        ensures output { self.new.output ≡ self.old.output }
+    {
+        let mut hasher = Hasher::new(self.output.mode);
+        let mut left = limits;
+        self.current.clear();
+        let mut found = fill(shelf, &mut self.current, &mut left)?;
+        'windows: while found == Found::More {
+            let next = self.next_window(shelf, &mut hasher, &mut left)?;
+            found = next;
+        }
+        if found == Found::Failed {
+            return Ok(None);
+        }
+        let mode = &self.output.mode;
+        let last = window_node(self.current.filled(), mode, hasher.len() / CHUNK_LEN);
+        Ok(Some(hasher.finish_with(last)))
+    }
+
+    // Hashes the window at hand, which is full, and reads the next one. `limits` are those of what is left.
+    fn next_window<S: Shelf>(
+        &mut self,
+        shelf: &mut S,
+        hasher: &mut Hasher,
+        limits: &mut Limits,
+    ) -> Result<Found, RunFault>
+        requires count { S.failures shelf.old < 2 ^ 64 - 1 }
+        requires turns { 0 < limits.old.turns }
+        requires full { WINDOW_LEN < self.old.current.filled }
+        requires little { self.old.current.filled ≤ WINDOW_LEN + READ_LEN }
+        requires mode { mode_of hasher.old ≡ self.old.output.mode }
+        requires aligned { length_of hasher.old % WINDOW_LEN ≡ 0 }
+        requires fits { length_of hasher.old + WINDOW_LEN ≤ 2 ^ 60 }
+        ensures hashed { OnOk result ((before : List ℕ) → StandsFor hasher.old before
+            → StandsFor hasher.new (before ++ take WINDOW_LEN (filled_bytes self.old.current))) }
+        ensures len { OnOk result (length_of hasher.new ≡ length_of hasher.old + WINDOW_LEN) }
+        ensures mode { mode_of hasher.new ≡ mode_of hasher.old }
+        ensures output { self.new.output ≡ self.old.output }
+        ensures more { result ≡ Ok More → WINDOW_LEN < self.new.current.filled }
+        ensures little { result ≡ Ok More → self.new.current.filled ≤ WINDOW_LEN + READ_LEN }
+        ensures turns { result ≡ Ok More → 0 < limits.new.turns }
+        ensures last { result ≡ Ok Last → self.new.current.filled ≤ WINDOW_LEN }
+        ensures some { result ≡ Ok Last → 0 < self.new.current.filled }
+        ensures more_bytes { result ≡ Ok More → IsSome (S.told shelf.old)
+            → drop WINDOW_LEN (filled_bytes self.old.current) ++ S.left shelf.old
+            ≡ filled_bytes self.new.current ++ S.left shelf.new }
+        ensures last_bytes { result ≡ Ok Last → IsSome (S.told shelf.old)
+            → drop WINDOW_LEN (filled_bytes self.old.current) ++ S.left shelf.old ≡ filled_bytes self.new.current }
+        ensures fewer { OnOk result (limits.new.turns < limits.old.turns) }
+        ensures many { result ≡ Ok More → limits.old.turns + self.old.current.filled
+            ≤ limits.new.turns + self.new.current.filled + WINDOW_LEN }
+        ensures few { OnOk result (self.new.current.filled + WINDOW_LEN + READ_LEN * limits.new.turns
+            ≤ self.old.current.filled + READ_LEN * limits.old.turns) }
+        ensures fault { IfErr result (λ fault. IsFaultOfRest fault (S.told shelf.old) limits.old Hashed (S.left shelf.old)) }
+        ensures no_sink { is_write_fault result ≡ false }
+        ensures sure { IsTrue (S.is_sure shelf.old) → result ≢ Ok Failed }
+        ensures count { S.failures shelf.new ≡ S.failures shelf.old + failed_reads result }
+        ensures told { S.told shelf.new ≡ S.told shelf.old }
+        ensures still_sure { S.is_sure shelf.new ≡ S.is_sure shelf.old }
+    {
+        let (full, tail) = self.current.filled().split_at(WINDOW_LEN);
+        self.next.start_with(tail)?;
+        let node = window_node(full, &self.output.mode, hasher.len() / CHUNK_LEN);
+        hasher.push_window(node, WINDOW_LEVEL).unwrap();
+        let found = fill(shelf, &mut self.next, limits)?;
+        mem::swap(&mut self.current, &mut self.next);
+        Ok(found)
     }
 
     // Takes the digest from the output of a content.
@@ -99,38 +198,11 @@ impl Digester {
     }
 }
 
-// Hashes what is left of the file that is begun, and answers its output, or nothing where it cannot be
-// read.
-fn hash_rest<S: Shelf>(
-    shelf: &mut S,
-    room: &mut [u8],
-    mode: Mode,
-    limits: Limits,
-) -> Result<Option<Xof>, RunFault>
-    requires count { S.failures shelf.old < 2 ^ 64 - 1 }
-    requires room { 0 < length room.old }
-    requires largest { limits.largest ≤ 2 ^ 30 }
-    ensures whole { IfOk result (λ read. MatchOption read (S.is_sure shelf.old ≡ false)
-        (λ output. IsOutputOf (S.told shelf.old) (S.left shelf.old) mode output)) }
-    ensures fault { IfErr result (λ fault. IsFaultOfRest fault (S.told shelf.old) limits Hashed (S.left shelf.old)) }
-    ensures no_sink { is_write_fault result ≡ false }
-    ensures room { length room.new ≡ length room.old }
-    ensures count { S.failures shelf.new ≡ S.failures shelf.old + is_unread result }
-    ensures told { S.told shelf.new ≡ S.told shelf.old }
-    ensures still_sure { S.is_sure shelf.new ≡ S.is_sure shelf.old }
+// The node of a window (BLAKE3 (2020), 2.1), whose chunks are numbered from `first`. Every window of every
+// file comes through here.
+fn window_node(bytes: &[u8], mode: &Mode, first: u64) -> Node
+    requires { first + chunks (length bytes.now) ≤ 2 ^ 54 }
+    ensures { result ≡ top mode.now first bytes.now }
 {
-    let mut hasher = Hasher::new(mode);
-    for _turn in 0..limits.turns {
-        let Ok(count) = shelf.read(room) else {
-            return Ok(None);
-        };
-        if count == 0 {
-            return Ok(Some(hasher.finish()));
-        }
-        if count as u64 > limits.largest - hasher.len() {
-            return Err(RunFault::TooLarge);
-        }
-        hasher.update(&room[..count]).unwrap();
-    }
-    Err(RunFault::EndlessInput)
+    b3_core::top(mode, first, bytes)
 }

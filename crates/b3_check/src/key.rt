@@ -9,7 +9,8 @@ ghost use Rattle.b3_check.specs.Sums.{key_name};
 ghost use Rattle.b3_check.specs.declared.fault.RunFault.TheVariants.{BadKey};
 
 use crate::fault::RunFault;
-use crate::shelf::{CannotRead, Shelf};
+use crate::room::read_at;
+use crate::shelf::Shelf;
 use b3_core::Mode;
 
 /// The name that a key is read from.
@@ -70,7 +71,7 @@ fn read_rest<S: Shelf>(shelf: &mut S) -> Option<KeyRead>
     let mut room = [0; READ_LEN];
     let mut len = 0;
     while len < READ_LEN {
-        let Ok(count) = read_at(shelf, &mut room, len) else {
+        let Ok(count) = read_at(shelf, &mut room, len, READ_LEN - len) else {
             return None;
         };
         if count == 0 {
@@ -79,22 +80,4 @@ fn read_rest<S: Shelf>(shelf: &mut S) -> Option<KeyRead>
         len += count;
     }
     Some(KeyRead { room, len })
-}
-
-// One read into the room behind the first `start` bytes.
-fn read_at<S: Shelf>(shelf: &mut S, room: &mut [u8], start: usize) -> Result<usize, CannotRead>
-    requires room { start < length room.old }
-    requires count { S.failures shelf.old < 2 ^ 64 - 1 }
-    ensures len { length room.new ≡ length room.old }
-    ensures within { IfOk result (λ n. start + n ≤ length room.old) }
-    ensures bytes { IsSome (S.told shelf.old) → IfOk result (λ n.
-        take start room.old ++ S.left shelf.old ≡ take (start + n) room.new ++ S.left shelf.new) }
-    ensures end { IsSome (S.told shelf.old) → IfOk result (λ n. n ≡ 0 → S.left shelf.new ≡ []) }
-    ensures sure { IsTrue (S.is_sure shelf.old) → IsOk result }
-    ensures count { S.failures shelf.new ≡ S.failures shelf.old + (if is_err result then 1 else 0) }
-    ensures told { S.told shelf.new ≡ S.told shelf.old }
-    ensures still_sure { S.is_sure shelf.new ≡ S.is_sure shelf.old }
-{
-    let count = shelf.read(&mut room[start..])?;
-    Ok(count)
 }

@@ -2,6 +2,7 @@
 //! what it writes to its two sinks.
 #![tactic(auto)]
 
+mod buffer;
 mod check;
 mod desk;
 mod fault;
@@ -20,6 +21,7 @@ mod shelf;
 mod sink;
 mod sum;
 mod tally;
+mod window;
 mod work;
 mod writing;
 

@@ -85,7 +85,6 @@ fn each_fault_has_its_text_and_number(rt: HostRuntime) -> Result<(), Fail> {
         (RunFault::Memory, 3, "b3sum: out of memory"),
         (RunFault::BadKey, 4, "b3sum: the key is not 32 bytes"),
         (RunFault::EndlessInput, 5, "b3sum: endless input"),
-        (RunFault::TooLarge, 6, "b3sum: input too large"),
     ];
     for (fault, number, text) in table {
         assert_eq!(rt; fault as u8, number);

@@ -20,14 +20,16 @@ pub struct Worker {
     alloc: Global,
     digester: Digester,
     limits: Limits,
-    ghost largest: { limits.largest ≤ 2 ^ 30 },
+    ghost some_turns: { 0 < limits.turns },
+    ghost turns: { limits.turns ≤ 2 ^ 40 },
 }
 
 impl Worker {
     /// One that has done nothing. It takes the room for all reads here.
     pub fn new(alloc: Global, output: Output, limits: Limits) -> Result<Worker, AllocError>
         requires in_output { output.seek + output.length ≤ 2 ^ 64 - 1 }
-        requires largest { limits.largest ≤ 2 ^ 30 }
+        requires some_turns { 0 < limits.turns }
+        requires turns { limits.turns ≤ 2 ^ 40 }
         ensures output { IfOk result (λ worker. worker.digester.output ≡ output) }
         ensures limits { IfOk result (λ worker. worker.limits ≡ limits) }
     {

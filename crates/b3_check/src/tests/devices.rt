@@ -97,23 +97,32 @@ impl Sink for OneByteSink {
     }
 }
 
-/// Gives the same content under each name, four bytes a read, and fails at one read.
+/// Gives the same content under each name, in pieces of one length, and fails at one read.
 #[derive(Drop)]
 pub struct FailingShelf<'a> {
     content: &'a [u8],
     place: usize,
+    most: usize,
     reads_before: u64,
     is_begun: bool,
     failures: u64,
 }
 
 impl<'a> FailingShelf<'a> {
+    // Pieces of four bytes.
     pub fn new(content: &'a [u8], reads_before: u64) -> FailingShelf<'a>
+        ensures { ⟦<FailingShelf<'a> as Shelf>⟧.failures result ≡ 0 }
+    {
+        FailingShelf::of_pieces(content, 4, reads_before)
+    }
+
+    pub fn of_pieces(content: &'a [u8], most: usize, reads_before: u64) -> FailingShelf<'a>
         ensures { ⟦<FailingShelf<'a> as Shelf>⟧.failures result ≡ 0 }
     {
         FailingShelf {
             content,
             place: 0,
+            most,
             reads_before,
             is_begun: false,
             failures: 0,
@@ -150,7 +159,7 @@ impl Shelf for FailingShelf<'_> {
         }
         self.reads_before -= 1;
         let rest = &self.content[self.place.min(self.content.len())..];
-        let count = rest.len().min(room.len()).min(4);
+        let count = rest.len().min(room.len()).min(self.most);
         room[..count].copy_from_slice(&rest[..count]);
         self.place += count;
         Ok(count)

@@ -12,7 +12,7 @@ use std::alloc::Global;
 use std::test::Fail;
 
 // Sums one name with these options.
-fn sum_one<S: Shelf, O: Sink, E: Sink>(
+pub fn sum_one<S: Shelf, O: Sink, E: Sink>(
     alloc: Global,
     shelf: &mut S,
     name: &str,
@@ -250,26 +250,22 @@ fn a_key_may_take_more_reads_than_a_file(rt: HostRuntime) -> Result<(), Fail> {
 }
 
 #[test]
-fn eleven_bytes_are_more_than_ten(rt: HostRuntime) -> Result<(), Fail> {
-    for (largest, answer, written) in [
-        (10, Err(RunFault::TooLarge), 0),
-        (11, Ok(tally(1, 0, 0)), 68),
-    ] {
+fn no_file_is_too_large(rt: HostRuntime) -> Result<(), Fail> {
+    for largest in [0, 10, 11] {
         let mut shelf = MemoryShelf::new(rt.alloc());
         let mut out = MemorySink::new(rt.alloc());
         let mut err = MemorySink::new(rt.alloc());
         shelf.put("-", b"eleven byte")?;
         let asked = options(100, largest);
         let given = sum_one(rt.alloc(), &mut shelf, "-", &mut out, &mut err, &asked);
-        assert_eq!(rt; given, answer, "at {largest}");
-        assert_eq!(rt; out.bytes().len(), written, "at {largest}");
+        assert_eq!(rt; given, Ok(tally(1, 0, 0)), "at {largest}");
+        assert_eq!(rt; out.bytes().len(), 68, "at {largest}");
         assert!(rt; err.bytes().is_empty());
     }
     Ok(())
 }
 
-// At the last read that is allowed a content of 100 bytes has not ended; where it has too many bytes
-// besides, that comes first.
+// At the last read that is allowed a content of 100 bytes has not ended.
 #[test]
 fn a_content_and_its_last_read(rt: HostRuntime) -> Result<(), Fail> {
     let line = "a2c85460e965626580e9cfa7a8aef6047720ee48efdd0ef27613ed358425e57a  -\n";
@@ -277,7 +273,7 @@ fn a_content_and_its_last_read(rt: HostRuntime) -> Result<(), Fail> {
         (99, 1_000, Ok(tally(1, 0, 0))),
         (100, 1_000, Err(RunFault::EndlessInput)),
         (100, 100, Err(RunFault::EndlessInput)),
-        (100, 99, Err(RunFault::TooLarge)),
+        (100, 99, Err(RunFault::EndlessInput)),
     ] {
         let content = pattern(rt.alloc(), length)?;
         let mut shelf = OneByteShelf::new(content.as_slice());

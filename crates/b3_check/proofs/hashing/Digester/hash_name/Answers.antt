@@ -12,8 +12,8 @@ returns-clause-digest g c =
     let left = g.S.Shelf.left c.begin.new.self in
     let output = c.args.self.now.output in
     let has : HasContent told c.args.name.now left = search rules in
-    let read = rw c.in-Some.is at c.in_ok-read.ensures.whole in
+    let read = rw c.in-Some.is at c.in_ok-output.ensures.whole in
     let is_output = subst (λ t. IsOutputOf t left output.mode c.in-Some.output) c.begin.ensures.told read in
     digest_whole told (g.S.Shelf.is_sure c.args.shelf.now) c.args.name.now left output c.in-Some.output
     c.take_digest.new.self.digest.items has is_output
-    (λ content is. c.take_digest.ensures.digest ∙ ap (λ (r : Reader). output_bytes r.node output.seek output.length) is)
+    (λ content is. (rw c.hash_rest.ensures.output at c.take_digest.ensures.digest) ∙ ap (λ (r : Reader). output_bytes r.node output.seek output.length) is)

@@ -1,6 +1,6 @@
 use Rattle.std.proofs.Common.{◌≤◌, ◌++◌, ◌∙◌, sym, ap, take, length, append_assoc, arith, rules}
 use Rattle.b3_check.proofs.ReadLemmas.{take-read}
-use Rattle.b3_check.proofs.key.read_at.Goals as goal
+use Rattle.b3_check.proofs.room.read_at.Goals as goal
 
 pub returns-clause-bytes : goal.returns-clause-bytes
 returns-clause-bytes g c = λ told.

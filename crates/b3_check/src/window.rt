@@ -1,0 +1,74 @@
+//! A window of a file, as it is read.
+
+ghost use Rattle.std.specs.Prelude.{◌≡◌, ◌≢◌, ◌+◌, ◌-◌, ◌*◌, ◌^◌, ◌<◌, ◌≤◌, ◌++◌, Ok, false, IsTrue, IsSome, IfErr, OnOk};
+ghost use Rattle.b3_check.specs.Faults.{is_write_fault};
+ghost use Rattle.b3_check.specs.Reading.{IsFaultOfRest};
+ghost use Rattle.b3_check.specs.Scripts.Kind.{Hashed};
+ghost use Rattle.b3_check.specs.Windows.{failed_reads, filled_bytes};
+ghost use Rattle.b3_check.specs.declared.buffer.TheConstants.{WINDOW_LEN};
+ghost use Rattle.b3_check.specs.declared.room.TheConstants.{READ_LEN};
+ghost use Rattle.b3_check.specs.declared.window.Found.TheVariants.{Failed, Last, More};
+
+use crate::buffer::{Buffer, WINDOW_LEN};
+use crate::fault::RunFault;
+use crate::options::Limits;
+use crate::shelf::Shelf;
+
+/// What reading a window came to.
+#[derive(Clone, Copy, Debug, PartialEq, Eq)]
+pub enum Found {
+    /// The window is full, and bytes come behind it.
+    More,
+    /// The file ends with the window.
+    Last,
+    /// A read failed.
+    Failed,
+}
+
+/// Reads on until the window is full and a further byte is there, or the file ends. Takes each read from
+/// `limits`, which are those of what is left; a run fault comes where the file has not ended after the
+/// last of them.
+pub fn fill<S: Shelf>(
+    shelf: &mut S,
+    buffer: &mut Buffer,
+    limits: &mut Limits,
+) -> Result<Found, RunFault>
+    requires count { S.failures shelf.old < 2 ^ 64 - 1 }
+    requires filled { buffer.old.filled ≤ WINDOW_LEN }
+    requires turns { 0 < limits.old.turns }
+    ensures more { result ≡ Ok More → WINDOW_LEN < buffer.new.filled }
+    ensures little { result ≡ Ok More → buffer.new.filled ≤ WINDOW_LEN + READ_LEN }
+    ensures turns { result ≡ Ok More → 0 < limits.new.turns }
+    ensures last { result ≡ Ok Last → buffer.new.filled ≤ WINDOW_LEN }
+    ensures some { OnOk result (buffer.old.filled ≤ buffer.new.filled) }
+    ensures more_bytes { result ≡ Ok More → IsSome (S.told shelf.old)
+        → filled_bytes buffer.old ++ S.left shelf.old ≡ filled_bytes buffer.new ++ S.left shelf.new }
+    ensures last_bytes { result ≡ Ok Last → IsSome (S.told shelf.old)
+        → filled_bytes buffer.old ++ S.left shelf.old ≡ filled_bytes buffer.new }
+    ensures fewer { OnOk result (limits.new.turns < limits.old.turns) }
+    ensures many { result ≡ Ok More
+        → limits.old.turns + buffer.old.filled ≤ limits.new.turns + buffer.new.filled }
+    ensures few { OnOk result (buffer.new.filled + READ_LEN * limits.new.turns
+        ≤ buffer.old.filled + READ_LEN * limits.old.turns) }
+    ensures fault { IfErr result (λ fault. IsFaultOfRest fault (S.told shelf.old) limits.old Hashed (S.left shelf.old)) }
+    ensures no_sink { is_write_fault result ≡ false }
+    ensures sure { IsTrue (S.is_sure shelf.old) → result ≢ Ok Failed }
+    ensures count { S.failures shelf.new ≡ S.failures shelf.old + failed_reads result }
+    ensures told { S.told shelf.new ≡ S.told shelf.old }
+    ensures still_sure { S.is_sure shelf.new ≡ S.is_sure shelf.old }
+{
+    'reads: while buffer.len() <= WINDOW_LEN {
+        buffer.make_room()?;
+        limits.turns -= 1;
+        let Ok(count) = buffer.read(shelf) else {
+            return Ok(Found::Failed);
+        };
+        if count == 0 {
+            return Ok(Found::Last);
+        }
+        if limits.turns == 0 {
+            return Err(RunFault::EndlessInput);
+        }
+    }
+    Ok(Found::More)
+}
