@@ -5,7 +5,7 @@ use Rattle.b3_check.specs.declared.options.CheckOptions.{CheckOptions}
 use Rattle.b3_check.specs.declared.options.Limits.{Limits}
 use Rattle.b3_check.specs.declared.options.SumOptions.{SumOptions}
 
--- a run may hash with so many workers, let a file take so many reads, and a content have so many bytes
+-- a run may hash with so many workers, let a file take so many reads, and a list have so many bytes
 pub record AreBounds (workers turns largest : ℕ) : Type 0 where
   pub some_workers : (1 ≤ workers) × (workers ≤ MAX_WORKERS)
   pub some_turns : (1 ≤ turns) × (turns ≤ 2 ^ 40)

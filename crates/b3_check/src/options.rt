@@ -46,7 +46,7 @@ pub struct SumOptions {
     pub workers: u32,
     /// How many reads a file may take.
     pub turns: u64,
-    /// How many bytes a file may have.
+    /// How many bytes a list may have. A run that sums names reads none.
     pub largest: u64,
 }
 
@@ -59,7 +59,7 @@ pub struct CheckOptions {
     pub workers: u32,
     /// How many reads a file may take.
     pub turns: u64,
-    /// How many bytes a file or a list may have.
+    /// How many bytes a list may have.
     pub largest: u64,
 }
 
@@ -68,7 +68,7 @@ pub struct CheckOptions {
 pub struct Limits {
     /// How many reads a file may take.
     pub turns: u64,
-    /// How many bytes a file may have.
+    /// How many bytes a list may have.
     pub largest: u64,
 }
 

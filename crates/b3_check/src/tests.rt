@@ -9,6 +9,7 @@ mod faults;
 mod faulty_files;
 mod memory;
 mod sums;
+mod windows;
 
 use crate::{CheckOptions, Form, KeyChoice, RunFault, SumOptions, Tally};
 use std::alloc::Global;
