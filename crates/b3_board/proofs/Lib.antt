@@ -18,3 +18,9 @@ pub mod Picturing
 pub mod Greatest
 -- A deposit, and what else the calls of a board say, on the picture.
 pub mod Deposits
+-- Sums over views, how often an index stands in a list, and rows of truth values.
+pub mod Totals
+-- Each step of a seat keeps the claims lawful.
+pub mod ClaimSteps
+-- A seat of its claims: what their views say of their fields.
+pub mod SeatViews

@@ -5,3 +5,5 @@ pub mod Pictures
 pub mod Shares
 pub mod Roots
 pub mod Entries
+pub mod Claiming
+pub mod Seats

@@ -7,9 +7,12 @@
 #![tactic(auto)]
 
 mod board;
+mod claim_rule;
+mod claims;
 mod cutting;
 mod entries;
 mod fault;
+mod gate;
 mod jobs;
 mod merging;
 mod plan;
@@ -21,8 +24,10 @@ mod tests;
 mod tree;
 
 pub use board::{Board, Refused};
+pub use claims::{Claims, Seat};
 pub use cutting::default_grain;
 pub use fault::BoardFault;
+pub use gate::{Gate, OpenGate};
 pub use jobs::{Done, Job};
 pub use plan::Plan;
 pub use planned::{OwnDone, OwnJob, Planned};
