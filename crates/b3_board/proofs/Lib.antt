@@ -24,3 +24,7 @@ pub mod Totals
 pub mod ClaimSteps
 -- A seat of its claims: what their views say of their fields.
 pub mod SeatViews
+-- What a worker did, after one more try.
+pub mod Working
+-- Sums over what workers hold, the rows that they have seen, and the chunks of the spans that they claimed.
+pub mod Hands

@@ -7,3 +7,4 @@ pub mod Roots
 pub mod Entries
 pub mod Claiming
 pub mod Seats
+pub mod Runs

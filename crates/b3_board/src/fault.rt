@@ -1,4 +1,4 @@
-//! Why a plan or a board is refused.
+//! Why a plan, a board or a run of workers is refused.
 
 ghost use Rattle.std.specs.Prelude.{◌≡◌};
 ghost use Rattle.b3_board.specs.declared.fault.BoardFault.TheVariants.{Memory};
@@ -6,7 +6,7 @@ ghost use Rattle.b3_board.specs.declared.fault.BoardFault.TheVariants.{Memory};
 use std::alloc::{AllocError, AllocFailed};
 use thiserror::Error;
 
-/// Why a plan or a board is refused.
+/// Why a plan, a board or a run of workers is refused.
 #[derive(Clone, Copy, Debug, PartialEq, Eq, Error)]
 pub enum BoardFault {
     /// The grain is no power of two from 1 to 2^20.
@@ -24,6 +24,9 @@ pub enum BoardFault {
     /// A growth was refused.
     #[error("out of memory")]
     Memory,
+    /// There are no workers, or more than 64.
+    #[error("there are no workers, or more than 64")]
+    BadWorkers,
 }
 
 impl From<AllocError> for BoardFault {

@@ -1,10 +1,11 @@
 // A plan: an input, cut into spans.
 
-ghost use Rattle.std.specs.Prelude.{◌≡◌, ◌⊎◌, ℕ, ◌+◌, ◌≤◌, ◌^◌, length, slice_get, false, IfOk, IfErr, Err};
+ghost use Rattle.std.specs.Prelude.{◌≡◌, ◌⊎◌, ℕ, ◌+◌, ◌<◌, ◌≤◌, ◌^◌, length, slice_get, false, IfOk, IfErr, Err};
 ghost use Rattle.std.specs.Option.{option_map};
 ghost use Rattle.b3_core.specs.Tree.{chunks, top};
 ghost use Rattle.b3_board.specs.Faults.{IsCutFault, IsGrainFault};
 ghost use Rattle.b3_board.specs.Plans.{IsCutting, IsPlanOf, by_grain, task_of};
+ghost use Rattle.b3_board.specs.Spans.{chunks_in};
 ghost use Rattle.b3_board.specs.declared.fault.BoardFault.{BoardFault};
 ghost use Rattle.b3_board.specs.declared.fault.BoardFault.TheVariants.{Memory};
 
@@ -160,9 +161,19 @@ impl<'a> Plan<'a> {
 
     /// The number of spans.
     pub fn len(&self) -> usize
-        ensures { result ≡ length self.now.spans }
+        ensures len { result ≡ length self.now.spans }
+        ensures some { 0 < result }
+        ensures few { result ≤ 1024 }
+        ensures small { chunks_in self.now.spans ≤ 2 ^ 20 }
     {
         self.spans.len()
+    }
+
+    // The number of chunks.
+    pub(crate) fn size(&self) -> u64
+        ensures { result ≡ chunks (length self.now.input) }
+    {
+        self.tree.size()
     }
 
     /// Span `i`, or none where the plan has no more than `i` spans.

@@ -1,0 +1,21 @@
+// What a worker holds.
+
+use crate::claims::Seat;
+use crate::planned::Planned;
+use crate::share::Share;
+
+/// What a worker gives back.
+#[derive(Drop)]
+pub struct Ended<L: Planned> {
+    /// Its seat at the claims.
+    pub seat: Seat,
+    /// Its share of the board's ledger.
+    pub share: Share<L>,
+}
+
+// What each worker of a run works with, and keeps for the run to join.
+#[derive(Drop)]
+pub(crate) struct Hand<L: Planned> {
+    pub(crate) seat: Seat,
+    pub(crate) share: Share<L>,
+}
