@@ -15,9 +15,9 @@ pub(crate) struct View {
 pub(crate) struct ClaimRule;
 
 impl TableRule<(), View, usize> for ClaimRule {
-    ghost use Rattle.b3_board.specs.Claiming.{IsLawful, newcomer};
+    ghost use Rattle.b3_board.specs.Claiming.{AreLawful, newcomer};
 
-    ghost holds = { λ n s. IsLawful n s.words s.views };
+    ghost holds = { λ n s. AreLawful n s.words s.views };
 
     ghost first = { newcomer };
 }

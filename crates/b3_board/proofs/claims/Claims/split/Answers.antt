@@ -1,13 +1,11 @@
 use Rattle.std.proofs.Common.{ap, arith}
 use Rattle.b3_board.specs.Seats.{Seated}
-use Rattle.b3_board.proofs.ClaimSteps.{splits}
+use Rattle.b3_board.proofs.ClaimSteps.{Splits-one_part}
 use Rattle.b3_board.proofs.SeatViews.{IsSeatOf-same}
 use Rattle.b3_board.proofs.claims.Claims.split.Goals as goal
 
 pub split_seat-token-requires : goal.split_seat-token-requires
 split_seat-token-requires c =
     let own = IsSeatOf-same c.self.view_is c.seat.view_is c.requires.own in
-    let sized = c.self.inside.sized in
-    let two = c.requires.parts in
     let same = ap (λ (u : Seated). u.view.parts) c.seat.view_is in
-    (own.0, omega arith, splits _ _ _ (omega arith))
+    (own.0, omega (arith, c.self.inside.sized), Splits-one_part _ _ _ (omega (arith, c.requires.parts, same)))
