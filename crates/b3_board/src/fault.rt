@@ -6,27 +6,27 @@ ghost use Rattle.b3_board.specs.declared.fault.BoardFault.TheVariants.{Memory};
 use std::alloc::{AllocError, AllocFailed};
 use thiserror::Error;
 
-/// Why a plan, a board or a run of workers is refused.
+/// Why a plan, a board or a run of workers is refused, with the number of the fault.
 #[derive(Clone, Copy, Debug, PartialEq, Eq, Error)]
 pub enum BoardFault {
     /// The grain is no power of two from 1 to 2^20.
     #[error("the grain is no power of two from 1 to 2^20")]
-    BadGrain,
+    BadGrain = 1,
     /// The spans are no cutting of the input into subtrees.
     #[error("the spans are no cutting of the input into subtrees")]
-    BadCut,
+    BadCut = 2,
     /// The input has more than 2^30 bytes.
     #[error("the input has more than 2^30 bytes")]
-    TooLarge,
+    TooLarge = 3,
     /// There are more than 1,024 spans.
     #[error("there are more than 1,024 spans")]
-    TooManySpans,
+    TooManySpans = 4,
     /// A growth was refused.
     #[error("out of memory")]
-    Memory,
+    Memory = 5,
     /// There are no workers, or more than 64.
     #[error("there are no workers, or more than 64")]
-    BadWorkers,
+    BadWorkers = 8,
 }
 
 impl From<AllocError> for BoardFault {

@@ -1,13 +1,14 @@
-// Boards over small inputs, drawn by hand, and over inputs that are cut and deposited at random.
+// Boards over small inputs, drawn by hand, what they refuse and keep, and shares.
 
-ghost use Rattle.std.specs.Prelude.{◌≡◌, ◌<◌, ◌≤◌, ◌^◌, length, IfOk, vec_len};
+ghost use Rattle.std.specs.Prelude.{◌≡◌, IfOk, vec_len};
 ghost use Rattle.b3_board.specs.Plans.{IsPlanOf};
 
 mod memory;
 mod plans;
+mod random;
 
 use super::*;
-use b3_core::{Mode, Node, Span, left, top};
+use b3_core::{Mode, Node, Span, top};
 use std::alloc::{AllocError, Global};
 use std::marker::Brand;
 use std::process::Abort;
@@ -239,82 +240,6 @@ fn each_order_of_five_chunks(rt: HostRuntime) -> Result<(), Fail> {
             order.push(left_over.remove(choice))?;
         }
         in_order(&rt, alloc, &plan, &order, &want)?;
-    }
-    Ok(())
-}
-
-// A row of numbers that look like chance.
-#[derive(Drop)]
-struct Chance {
-    state: u64,
-}
-
-impl Chance {
-    // The next number below `bound`.
-    fn below(&mut self, bound: u64) -> u64
-        requires { 0 < bound }
-        ensures { result < bound }
-    {
-        self.state = self
-            .state
-            .wrapping_mul(6364136223846793005)
-            .wrapping_add(1442695040888963407);
-        (self.state >> 33) % bound
-    }
-}
-
-// Cuts a subtree into smaller ones, as chance has it.
-fn cut_at_random(
-    rt: &impl Abort,
-    alloc: Global,
-    chance: &mut Chance,
-    n: u64,
-) -> Result<Vec<Span>, AllocError> {
-    let mut cutting = Vec::new(alloc);
-    let mut rest = Vec::new(alloc);
-    rest.push(span(0, n))?;
-    for _ in 0..4096usize {
-        let Some(next) = rest.pop() else {
-            break;
-        };
-        if next.count > 1 && chance.below(8) > 0 {
-            let count = left(next.count);
-            assert!(rt; next.first < 1 << 20 && count < next.count && next.count <= 1 << 20);
-            rest.push(span(next.first + count, next.count - count))?;
-            rest.push(span(next.first, count))?;
-        } else {
-            cutting.push(next)?;
-        }
-    }
-    Ok(cutting)
-}
-
-#[test]
-fn random_cuttings_and_orders(rt: HostRuntime) -> Result<(), Fail> {
-    let alloc = rt.alloc();
-    let input = pattern(alloc, 1024 * 1024)?;
-    let mut chance = Chance { state: 1 };
-    for turn in 0..1000usize {
-        // Most are small, so that the test ends soon however it is compiled.
-        let greatest = if turn % 100 == 0 { 1 << 20 } else { 1 << 15 };
-        let most = 1 + chance.below(greatest);
-        let bound = 1 + chance.below(most);
-        let len = 1 + chance.below(bound) as usize;
-        assert!(&rt; len <= input.len());
-        let part = &input[..len];
-        let n = b3_core::chunks(len as u64);
-        let cutting = cut_at_random(&rt, alloc, &mut chance, n)?;
-        let plan = Plan::cut(alloc, part, Mode::hash(), &cutting)?;
-        let mut order = Vec::with_capacity(alloc, plan.len())?;
-        for i in 0..plan.len() {
-            order.push(i)?;
-        }
-        for i in 0..order.len() {
-            let other = chance.below(i as u64 + 1) as usize;
-            assert!(&rt; other < order.len());
-            order.swap(i, other);
-        }
-        in_order(&rt, alloc, &plan, &order, &root_of(&rt, part))?;
     }
     Ok(())
 }

@@ -20,6 +20,14 @@ fn cuttings_that_are_taken_and_refused(rt: HostRuntime) -> Result<(), Fail> {
         (taken.first(), taken.len(), taken.span(2)),
         (16384, 2, None)
     );
+    let between = Plan::cut_at(
+        alloc,
+        &input,
+        Mode::hash(),
+        16384,
+        &[span(0, 2), span(2, 4)],
+    );
+    assert_eq!(&rt; between.err(), Some(BoardFault::BadCut));
     let refused: [&[Span]; 7] = [
         &[span(0, 2), span(2, 4)],
         &[span(0, 4)],
