@@ -3,6 +3,7 @@
 ghost use Rattle.std.specs.Prelude.{◌≡◌, IfOk, vec_len};
 ghost use Rattle.b3_board.specs.Plans.{IsPlanOf};
 
+mod claims;
 mod memory;
 mod plans;
 mod random;
