@@ -4,9 +4,9 @@ use Rattle.std.proofs.Math.Nat.{mul-le-mul_right, suc-mul}
 use Rattle.std.proofs.Math.Seq.{take-suc}
 use Rattle.std.proofs.lemmas.List.{map-append, take-append-drop}
 use Rattle.b3_lines.specs.Lines.{line_at}
-use Rattle.b3_lines.specs.Reading.{Reads, first_refusal}
+use Rattle.b3_lines.specs.Reading.{IsReadAs, first_refusal}
 use Rattle.b3_lines.specs.declared.fault.LineFault.{LineFault}
-use Rattle.b3_lines.proofs.Outcomes.{SaysAs-from_Reads}
+use Rattle.b3_lines.proofs.Outcomes.{SaysAs-from_IsReadAs}
 use Rattle.b3_check.specs.declared.fault.RunFault.{RunFault}
 use Rattle.b3_check.specs.declared.fault.RunFault.TheVariants.{WriteFault, Memory}
 use Rattle.b3_check.specs.declared.options.Limits.{Limits}
@@ -45,11 +45,11 @@ length-line_tasks quiet number [] = refl
 length-line_tasks quiet number (line ∷ lines) = ap suc (length-line_tasks quiet (number + 1) lines)
 
 -- a line that is read has its entry
-pub entry_of-read : (line digest name shown : List ℕ) → Reads line digest name shown
+pub entry_of-read : (line digest name shown : List ℕ) → IsReadAs line digest name shown
     → entry_of line ≡ record { digest = digest; name = name; shown = shown }
 unfolding entry_of
 entry_of-read line digest name shown reads =
-    let says = SaysAs-from_Reads line digest name shown reads in
+    let says = SaysAs-from_IsReadAs line digest name shown reads in
     rw (says.name_is, says.shown_is, ap decoded says.digits) refl
 
 -- ---- lists
@@ -158,7 +158,7 @@ lists_next i k = ap (λ n. n * (1 + k)) (add-one i) ∙ suc-mul i (1 + k)
 
 pub line_tasks-read : (quiet : Bool) (number : ℕ) (text : List ℕ) (place : ℕ × ℕ) (places rest : List (ℕ × ℕ))
     (digest name shown : List ℕ)
-    → places ≡ place ∷ rest → Reads (line_at text place) digest name shown
+    → places ≡ place ∷ rest → IsReadAs (line_at text place) digest name shown
     → line_tasks quiet number (map (line_at text) places)
     ≡ Find name (λ found. verdict_report quiet shown (verdict_on digest found)) ∷ line_tasks quiet (number + 1)
     (map (line_at text) rest)
@@ -167,7 +167,7 @@ line_tasks-read quiet number text place places rest digest name shown steps read
     let tasks = line_tasks quiet (number + 1) (map (line_at text) rest) in
     ap (λ (ps : List (ℕ × ℕ)). line_tasks quiet number (map (line_at text) ps)) steps
     ∙ ap (λ (refusal : Option LineFault). line_task quiet number line refusal ∷ tasks)
-    (SaysAs-from_Reads line digest name shown reads).accepted
+    (SaysAs-from_IsReadAs line digest name shown reads).accepted
     ∙ ap (λ (entry : Entry). Find entry.name
     (λ found. verdict_report quiet entry.shown (verdict_on entry.digest found)) ∷ tasks)
     (entry_of-read line digest name shown reads)

@@ -1,9 +1,9 @@
 -- The script of a run that checks lists of check lines.
-use Rattle.std.specs.Prelude.{ℕ, ◌+◌, ◌==◌, Bool, if◌then◌else◌, List, [], ◌∷◌, ◌++◌, Option, None, Some, Result, Ok, Err, bytes_eq, codes, decimal, drop, map, take}
+use Rattle.std.specs.Prelude.{ℕ, ◌+◌, ◌==◌, Bool, if◌then◌else◌, List, [], ◌∷◌, ◌++◌, Option, None, Some, Result, Ok, Err, bytes_eq, codes, decimal, map}
 use Rattle.hex.specs.Hex.{decode_of}
 use Rattle.b3_lines.specs.Lines.{lines_of}
 use Rattle.b3_lines.specs.Parts.{shown_of}
-use Rattle.b3_lines.specs.Reading.{after_mark, first_refusal, has_mark, name_of, without_return}
+use Rattle.b3_lines.specs.Reading.{after_mark, first_refusal, has_mark, layout_of, name_of, without_return}
 use Rattle.b3_lines.specs.Reasons.{reason_of}
 use Rattle.b3_lines.specs.declared.fault.LineFault.{LineFault}
 use Rattle.b3_check.specs.declared.judging.Answer.{Answer as DigestAnswer}
@@ -34,11 +34,11 @@ decoded (Err _) = []
 unfoldable pub entry_of : List ℕ → Entry
 entry_of line =
     let text = without_return line in
-    let rest = after_mark text in
+    let layout = layout_of (after_mark text) in
     record {
-      digest = decoded (decode_of (take 64 rest));
-      name = name_of (has_mark text) (drop 66 rest);
-      shown = shown_of (has_mark text) (drop 66 rest);
+      digest = decoded (decode_of layout.digits);
+      name = name_of (has_mark text) layout.spelled;
+      shown = shown_of (has_mark text) layout.spelled;
     }
 
 -- what an answer says of the digest of a line

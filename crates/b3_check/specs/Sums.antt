@@ -6,12 +6,12 @@ use Rattle.b3_core.specs.Modes.{hash_mode, keyed_mode}
 use Rattle.b3_core.specs.declared.modes.Mode.{Mode}
 use Rattle.b3_hash.specs.Derivation.{derived_mode}
 use Rattle.b3_lines.specs.Names.{holds_bad_character}
-use Rattle.b3_lines.specs.Writing.{plain, shown}
+use Rattle.b3_lines.specs.Writing.{plain, shown, tagged}
 use Rattle.b3_check.specs.declared.fault.RunFault.TheVariants.{ReadFault, BadKey}
 use Rattle.b3_check.specs.declared.hashing.Output.{Output}
 use Rattle.b3_check.specs.declared.options.SumOptions.{SumOptions}
 use Rattle.b3_check.specs.declared.options.Form.{Form}
-use Rattle.b3_check.specs.declared.options.Form.TheVariants.{Named, Bare, Raw}
+use Rattle.b3_check.specs.declared.options.Form.TheVariants.{Named, Bare, Raw, Tagged}
 use Rattle.b3_check.specs.declared.options.KeyChoice.{KeyChoice}
 use Rattle.b3_check.specs.declared.options.KeyChoice.TheVariants.{Plain, Keyed, Derive}
 use Rattle.b3_check.specs.Tallies.{one_ok, one_failed}
@@ -41,12 +41,14 @@ abbrev pub shows_name : Form → Bool
 shows_name Named = true
 shows_name Bare = false
 shows_name Raw = false
+shows_name Tagged = true
 
--- what is written for a digest: a check line, the digits and a line feed, or the bytes alone
+-- what is written for a digest: a line of either form, the digits and a line feed, or the bytes alone
 abbrev pub digest_text : Form → List ℕ → List ℕ → List ℕ
 digest_text Named digest name = plain digest name
 digest_text Bare digest name = encode_lower digest ++ line_feed
 digest_text Raw digest name = digest
+digest_text Tagged digest name = tagged digest name
 
 -- what is said of a name by its digest, or where it cannot be read
 abbrev pub name_report : Form → List ℕ → Option (List ℕ) → Report

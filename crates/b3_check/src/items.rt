@@ -99,7 +99,7 @@ impl Form {
     fn shows_name(self) -> bool
         ensures { result ≡ shows_name self }
     {
-        matches!(self, Form::Named)
+        matches!(self, Form::Named | Form::Tagged)
     }
 }
 

@@ -23,12 +23,14 @@ pub enum KeyChoice {
 /// What is written for a digest.
 #[derive(Clone, Copy, Debug, PartialEq, Eq)]
 pub enum Form {
-    /// A check line: the digits and the name.
+    /// A plain check line: the digits and the name.
     Named,
     /// The digits and a line feed.
     Bare,
     /// The bytes alone.
     Raw,
+    /// A tagged check line: the name and the digits.
+    Tagged,
 }
 
 /// How a run hashes, and what it writes.

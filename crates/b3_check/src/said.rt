@@ -3,7 +3,7 @@
 ghost use Rattle.std.specs.Prelude.{◌≡◌, ◌++◌, true, false, IfOk};
 ghost use Rattle.std.specs.String.{string_bytes};
 ghost use Rattle.hex.specs.Hex.{encode_lower};
-ghost use Rattle.b3_lines.specs.Writing.{plain};
+ghost use Rattle.b3_lines.specs.Writing.{plain, tagged};
 ghost use Rattle.b3_check.specs.Sums.{complaint, digest_text, failed_report, is_bad_name, line_feed, name_report, shows_name};
 ghost use Rattle.b3_check.specs.Checks.{answer_as, mismatches, refusal, refused_report, unread_list_report, verdict_on, verdict_report, warning, warning_report};
 ghost use Rattle.b3_check.specs.Tasks.{bytes_of, len_of, report_of};
@@ -11,7 +11,7 @@ ghost use Rattle.b3_check.specs.Tasks.{bytes_of, len_of, report_of};
 use crate::judging::{Answer, Verdict, judge};
 use crate::options::Form;
 use crate::tally::Tally;
-use b3_lines::{Line, LineFault, shown_name, write_line};
+use b3_lines::{Line, LineFault, shown_name, write_line, write_tagged};
 use std::alloc::{AllocError, Global};
 
 /// A text for each sink, and what is counted.
@@ -116,18 +116,31 @@ fn digest_text(alloc: Global, form: Form, digest: &[u8], name: &str) -> Result<V
     ensures { IfOk result (λ text. text.items ≡ digest_text form digest.now name.now) }
 {
     match form {
-        Form::Named => check_line(alloc, digest, name),
+        Form::Named => plain_line(alloc, digest, name),
         Form::Bare => bare_line(alloc, digest),
         Form::Raw => Vec::from_slice(alloc, digest),
+        Form::Tagged => tagged_line(alloc, digest, name),
     }
 }
 
-// The check line of a digest and a name that a line can show.
-fn check_line(alloc: Global, digest: &[u8], name: &str) -> Result<Vec<u8>, AllocError>
+// The plain line of a digest and a name that a line can show.
+fn plain_line(alloc: Global, digest: &[u8], name: &str) -> Result<Vec<u8>, AllocError>
     requires { is_bad_name name.now ≡ false }
     ensures { IfOk result (λ line. line.items ≡ plain digest.now name.now) }
 {
     match write_line(alloc, digest, name) {
+        Ok(line) => Ok(line),
+        Err(LineFault::Memory) => Err(AllocError),
+        Err(_) => unreachable!(),
+    }
+}
+
+// Their tagged line.
+fn tagged_line(alloc: Global, digest: &[u8], name: &str) -> Result<Vec<u8>, AllocError>
+    requires { is_bad_name name.now ≡ false }
+    ensures { IfOk result (λ line. line.items ≡ tagged digest.now name.now) }
+{
+    match write_tagged(alloc, digest, name) {
         Ok(line) => Ok(line),
         Err(LineFault::Memory) => Err(AllocError),
         Err(_) => unreachable!(),

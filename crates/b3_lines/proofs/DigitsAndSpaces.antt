@@ -1,10 +1,9 @@
 -- The digits of a digest, and the spaces behind them.
-use Rattle.std.proofs.Common.{◌≡◌, ℕ, ◌≤◌, true, false, not, List, ◌++◌, length, take, drop, slice_index, Result, Ok, Err, refl, subst, sym, ap, ◌∙◌, arith, append_assoc}
-use Rattle.std.specs.Prelude.{IsCharBoundary, IsOk, IsUtf8, bytes_eq, nat_eq}
+use Rattle.std.proofs.Common.{◌≡◌, ℕ, ◌≤◌, true, false, List, ◌++◌, length, take, drop, slice_index, Result, Ok, Err, refl, sym, ap, ◌∙◌, arith, append_assoc}
+use Rattle.std.specs.Prelude.{IsCharBoundary, IsOk, IsUtf8, bytes_eq}
 use Rattle.std.specs.List.{AllPass, list_all}
-use Rattle.std.proofs.lemmas.Bool.{false_from_ne_true, not-false}
+use Rattle.std.proofs.lemmas.Bool.{false_from_ne_true}
 use Rattle.std.proofs.lemmas.Str.{IsCharBoundary-after_ascii}
-use Rattle.std.specs.Cmp.Lexicographic.{pointwise}
 use Rattle.std.proofs.lemmas.List.{drop-drop, drop_at, get_or-drop, get_or-take, take-append-drop, take_at}
 use Rattle.std.proofs.lemmas.List.Recursion.{and_at, and_from_places}
 use Rattle.std.proofs.lemmas.Slice.Eq.{bytes_eq-Decides}
@@ -12,7 +11,6 @@ use Rattle.hex.specs.declared.error.FromHexError.{FromHexError}
 use Rattle.hex.specs.Hex.{decode_of, decode_sized, is_hex_digit}
 use Rattle.hex.proofs.HexLemmas.{IsOk-decode_sized, decode_of-digits, decode_sized-twice}
 use Rattle.b3_lines.specs.Writing.{spaces}
-use Rattle.b3_lines.proofs.Refusals.{IsSpaced}
 
 -- the test of each digit, as a computation
 pub list_all-AllPass : (s : List ℕ) → AllPass is_hex_digit s → list_all is_hex_digit s ≡ true
@@ -73,23 +71,11 @@ join-spaced rest spaced =
     sym (take-append-drop 64 rest) ∙ ap (λ t. take 64 rest ++ t) tail
     ∙ sym (append_assoc (take 64 rest) spaces (drop 66 rest))
 
--- what is read of the bytes that follow the mark, where their digits and their spaces are right
-pub IsSpaced-from_reads : (rest bytes two digest : List ℕ) → bytes ≡ rest → 66 ≤ length bytes
-    → Ok digest ≡ decode_sized (take 64 bytes) 32
-    → two ≡ spaces → false ≡ not (pointwise nat_eq (take 2 (drop 64 bytes)) two) → IsSpaced rest
-IsSpaced-from_reads rest bytes two digest same long ok two_is spaced =
-    let read : IsSpaced bytes = record {
-      long = long;
-      digits = (digits-from_ok (take 64 bytes) digest (sym ok)).0;
-      spaced = ap (pointwise nat_eq (take 2 (drop 64 bytes))) (sym two_is) ∙ not-false _ (sym spaced);
-    } in
-    subst IsSpaced same read
-
 -- the byte before the name is a space, where a text may be cut
-pub IsCharBoundary-name : (rest : List ℕ) → IsUtf8 rest → IsSpaced rest → IsCharBoundary rest 66
-IsCharBoundary-name rest utf8 spaced =
-    let long = spaced.long in
-    let two = (bytes_eq-Decides (take 2 (drop 64 rest)) spaces).0 spaced.spaced in
+pub IsCharBoundary-name : (rest : List ℕ) → IsUtf8 rest → 66 ≤ length rest
+    → bytes_eq (take 2 (drop 64 rest)) spaces ≡ true → IsCharBoundary rest 66
+IsCharBoundary-name rest utf8 long spaced =
+    let two = (bytes_eq-Decides (take 2 (drop 64 rest)) spaces).0 spaced in
     let space : slice_index rest 65 ≡ 32 =
     sym (get_or-drop 64 rest 1 0) ∙ sym (get_or-take 2 (drop 64 rest) 1 0 (omega arith))
     ∙ ap (λ t. slice_index t 1) two in

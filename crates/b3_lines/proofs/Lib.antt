@@ -7,10 +7,14 @@ pub mod BadCharacters
 -- a line as it is written: part by part, and that it is text
 pub mod Written
 pub mod Texts
--- a line as it is read: its digits and spaces, the first refusal of it, and what it says where there is none
+-- a line as it is read: its digits and spaces, how its parts lie, the first refusal of it, and what it says where there
+-- is none
 pub mod DigitsAndSpaces
+pub mod Layouts
 pub mod Refusals
 pub mod Outcomes
+-- no line is both plain and tagged
+pub mod OneForm
 -- a line that was written reads back
 pub mod ReadBack
 -- what the answer of a call says where it is `Ok`

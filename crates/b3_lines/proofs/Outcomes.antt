@@ -1,28 +1,36 @@
 -- What a line says where it is not refused, and that it says nothing else.
-use Rattle.std.proofs.Common.{◌≡◌, ◌≢◌, ℕ, Bool, true, false, ◌&&◌, ◌==◌, List, [], ◌∷◌, ◌++◌, length, take, drop, Option, Some, None, Ok, refl, sym, ap, ◌∙◌, arith, append_assoc, inl, inr}
+use Rattle.std.proofs.Common.{◌≡◌, ◌≢◌, ◌⊎◌, ℕ, Bool, true, false, ◌&&◌, ◌==◌, List, [], ◌∷◌, ◌++◌, length, drop, Option, Some, None, Ok, refl, sym, ap, subst, ◌∙◌, arith, append_assoc, inl, inr}
 use Rattle.std.specs.Prelude.{IsUtf8, MatchOption}
 use Rattle.std.specs.List.{list_all}
 use Rattle.std.proofs.lemmas.Bool.{cases_Bool, cond-false, cond-true, eqb-false, eqb-true, ne_eqb}
-use Rattle.std.proofs.lemmas.List.{length-append, length-take-le, nil_from_length}
-use Rattle.std.proofs.lemmas.Slice.Eq.{bytes_eq-Decides}
+use Rattle.std.proofs.lemmas.List.{nil_from_length}
 use Rattle.std.proofs.lemmas.Str.{IsUtf8-from_is_utf8, is_utf8-from_IsUtf8}
 use Rattle.hex.specs.Hex.{decode_of, is_hex_digit}
 use Rattle.hex.proofs.HexLemmas.{decode_of-ok, decode_of-same}
 use Rattle.b3_lines.specs.declared.fault.LineFault.{LineFault}
-use Rattle.b3_lines.specs.Names.{has_bad_escape, holds_bad_character, unescaped}
-use Rattle.b3_lines.specs.Reading.{AreDigits, HasOneOutcome, Reads, SaysOne, after_mark, first_refusal, has_mark, name_of, refusal_after_mark, without_return}
+use Rattle.b3_lines.specs.Names.{Spells, has_bad_escape, holds_bad_character, unescaped}
+use Rattle.b3_lines.specs.Reading.{AreDigits, HasOneOutcome, IsReadAs, Layout, Reads, ReadsTagged, SaysMarked, SaysMarkedTagged, SaysOne, SaysTagged, SaysUnmarked, after_mark, first_refusal, has_mark, is_tagged, layout_of, name_of, refusal_after_mark, without_return}
 use Rattle.b3_lines.specs.Parts.{HasParts, shown_of}
-use Rattle.b3_lines.specs.Writing.{spaces}
-use Rattle.b3_lines.proofs.DigitsAndSpaces.{cut-digits, cut-name, cut-rest, digest-from_digits, join-spaced, list_all-AllPass}
+use Rattle.b3_lines.specs.Writing.{closing, spaces, tag}
+use Rattle.b3_lines.proofs.DigitsAndSpaces.{digest-from_digits, list_all-AllPass}
+use Rattle.b3_lines.proofs.Layouts.{LiesAs, LiesAs-plain, LiesAs-tagged, joined-plain, joined-tagged, length-layout_digits}
 use Rattle.b3_lines.proofs.Escapes.{Spells-from_lawful, Spells-unescaped, unescaped-not_nil, unescaped-nil}
-use Rattle.b3_lines.proofs.Refusals.{IsPassed, IsPassed-from_none, first_refusal-text, refusal-none, text-from_none}
+use Rattle.b3_lines.proofs.Refusals.{IsPassed, IsPassed-from_none, first_refusal-text, refusal-none, refusal_after_mark-of, text-from_none}
+
+-- what follows the mark of a line
+abbrev pub rest_of : List ℕ → List ℕ
+rest_of line = after_mark (without_return line)
+
+-- the name of a line as it stands
+abbrev pub spelled_of : List ℕ → List ℕ
+spelled_of line = (layout_of (rest_of line)).spelled
 
 -- what a line says, by its digits and the name as it stands
 pub record SaysAs (line digest name shown : List ℕ) : Type 0 where
   pub accepted : first_refusal line ≡ None
-  pub digits : decode_of (take 64 (after_mark (without_return line))) ≡ Ok digest
-  pub name_is : name ≡ name_of (has_mark (without_return line)) (drop 66 (after_mark (without_return line)))
-  pub shown_is : shown ≡ shown_of (has_mark (without_return line)) (drop 66 (after_mark (without_return line)))
+  pub digits : decode_of (layout_of (rest_of line)).digits ≡ Ok digest
+  pub name_is : name ≡ name_of (has_mark (without_return line)) (spelled_of line)
+  pub shown_is : shown ≡ shown_of (has_mark (without_return line)) (spelled_of line)
 
 -- ---- what is read is what the line says
 
@@ -31,121 +39,171 @@ marked-cons : (text : List ℕ) → has_mark text ≡ true → text ≡ 92 ∷ d
 marked-cons [] marked = cc marked
 marked-cons (b ∷ text) marked = ap (λ x. x ∷ text) (eqb-true b 92 marked)
 
--- digits, two spaces and a name follow the mark of a line that has passed the tests
-spaced-digits : (marked : Bool) (rest digest : List ℕ) → IsPassed marked rest → decode_of (take 64 rest) ≡ Ok digest
-    → AreDigits (take 64 rest) digest
-spaced-digits marked rest digest passed ok =
-    record { count = length-take-le 64 rest (omega (arith, passed.is_spaced.long)); value = ok }
-
 -- a name of some length is not empty
 not_nil : (name : List ℕ) → (length name == 0) ≡ false → name ≢ []
 not_nil name named empty = eqb-false _ 0 named (ap length empty)
 
+-- nor is it where its escapes are taken back
+name_of-not_nil : (marked : Bool) (spelled : List ℕ) → (length spelled == 0) ≡ false → name_of marked spelled ≢ []
+name_of-not_nil true spelled named = unescaped-not_nil spelled (not_nil spelled named)
+name_of-not_nil false spelled named = not_nil spelled named
+
+-- the parts of a text, marked or not
+module _ (text digest digits spelled : List ℕ) (are : AreDigits digits digest)
+    (lawful : has_mark text ≡ true → has_bad_escape spelled ≡ false) where
+  -- its name, and the name shown
+  abbrev its_name : List ℕ
+  its_name = name_of (has_mark text) spelled
+
+  abbrev its_shown : List ℕ
+  its_shown = shown_of (has_mark text) spelled
+
+  -- a marked one spells its name
+  spells : has_mark text ≡ true → Spells spelled its_name
+  spells marked =
+      subst (Spells spelled) (sym (cond-true (has_mark text) (unescaped spelled) spelled marked))
+      (Spells-from_lawful spelled (lawful marked))
+
+  -- the name of another stands as it is
+  name-unmarked : has_mark text ≡ false → spelled ≡ its_name
+  name-unmarked unmarked = sym (cond-false (has_mark text) (unescaped spelled) spelled unmarked)
+
+  -- and is shown so
+  shown-unmarked : has_mark text ≡ false → its_shown ≡ its_name
+  shown-unmarked unmarked = cond-false (has_mark text) (92 ∷ spelled) spelled unmarked ∙ name-unmarked unmarked
+
+  -- what a marked text begins with
+  whole-marked : has_mark text ≡ true → text ≡ 92 ∷ after_mark text
+  whole-marked marked =
+      marked-cons text marked ∙ ap (λ t. 92 ∷ t) (sym (cond-true (has_mark text) (drop 1 text) text marked))
+
+  -- what another is
+  whole-unmarked : has_mark text ≡ false → text ≡ after_mark text
+  whole-unmarked unmarked = sym (cond-false (has_mark text) (drop 1 text) text unmarked)
+
+  -- digits, two spaces and a name
+  says-plain : after_mark text ≡ digits ++ spaces ++ spelled
+      → SaysUnmarked text digest its_name its_shown ⊎ SaysMarked text digest its_name its_shown
+  says-plain joined =
+      elim (cases_Bool (has_mark text)) [
+        | inl marked ↦ inr (record {
+          digits = digits;
+          spelled = spelled;
+          digits_are = are;
+          text_is = whole-marked marked ∙ ap (λ t. 92 ∷ t) joined;
+          spells = spells marked;
+          shown_is = cond-true (has_mark text) (92 ∷ spelled) spelled marked;
+        })
+        | inr unmarked ↦ inl (record {
+          digits = digits;
+          digits_are = are;
+          text_is = whole-unmarked unmarked ∙ joined ∙ ap (λ t. digits ++ spaces ++ t) (name-unmarked unmarked);
+          shown_is = shown-unmarked unmarked;
+        })
+      ]
+
+  -- `BLAKE3 (`, a name, `) = ` and digits
+  says-tagged : after_mark text ≡ tag ++ spelled ++ closing ++ digits
+      → SaysTagged text digest its_name its_shown ⊎ SaysMarkedTagged text digest its_name its_shown
+  says-tagged joined =
+      elim (cases_Bool (has_mark text)) [
+        | inl marked ↦ inr (record {
+          digits = digits;
+          spelled = spelled;
+          digits_are = are;
+          text_is = whole-marked marked ∙ ap (λ t. 92 ∷ t) joined;
+          spells = spells marked;
+          shown_is = cond-true (has_mark text) (92 ∷ spelled) spelled marked;
+        })
+        | inr unmarked ↦ inl (record {
+          digits = digits;
+          digits_are = are;
+          text_is = whole-unmarked unmarked ∙ joined
+              ∙ ap (λ t. tag ++ t ++ closing ++ digits) (name-unmarked unmarked);
+          shown_is = shown-unmarked unmarked;
+        })
+      ]
+
 -- a line that is not refused says its digits and its name
-pub Reads-from_none : (line digest : List ℕ) → first_refusal line ≡ None
-    → decode_of (take 64 (after_mark (without_return line))) ≡ Ok digest
-    → Reads line digest (name_of (has_mark (without_return line)) (drop 66 (after_mark (without_return line))))
-    (shown_of (has_mark (without_return line)) (drop 66 (after_mark (without_return line))))
-Reads-from_none line digest none ok =
+pub IsReadAs-from_none : (line digest : List ℕ) → first_refusal line ≡ None
+    → decode_of (layout_of (rest_of line)).digits ≡ Ok digest
+    → IsReadAs line digest (name_of (has_mark (without_return line)) (spelled_of line))
+    (shown_of (has_mark (without_return line)) (spelled_of line))
+IsReadAs-from_none line digest none ok =
     let text = without_return line in
+    let rest = rest_of line in
+    let layout = layout_of rest in
     let parts = text-from_none line none in
-    let passed = IsPassed-from_none (has_mark text) (after_mark text) parts.2 in
-    let utf8 = IsUtf8-from_is_utf8 text parts.1 in
-    let joined = join-spaced (after_mark text) passed.is_spaced.spaced in
-    let digits = spaced-digits (has_mark text) (after_mark text) digest passed ok in
-    elim (cases_Bool (has_mark text)) [
-      | inl marked ↦
-          let spelled = drop 66 (drop 1 text) in
-          let lawful : has_bad_escape spelled ≡ false = rw marked at passed.lawful in
-          let named : (length spelled == 0) ≡ false = rw marked at passed.named in
-          let spells = Spells-from_lawful spelled lawful in
-          rw marked (record {
-            says = inr (record {
-              digits = take 64 (drop 1 text);
-              spelled = spelled;
-              digits_are = rw marked at digits;
-              text_is = marked-cons text marked ∙ ap (λ t. 92 ∷ t) (rw marked at joined);
-              spells = spells;
-              shown_is = refl;
-            });
-            is_text = utf8;
-            is_named = unescaped-not_nil spelled (not_nil spelled named);
-            is_lawful = rw marked at passed.allowed;
-          })
-      | inr unmarked ↦
-          let named : (length (drop 66 text) == 0) ≡ false = rw unmarked at passed.named in
-          rw unmarked (record {
-            says = inl (record {
-              digits = take 64 text;
-              digits_are = rw unmarked at digits;
-              text_is = rw unmarked at joined;
-              shown_is = refl;
-            });
-            is_text = utf8;
-            is_named = not_nil (drop 66 text) named;
-            is_lawful = rw unmarked at passed.allowed;
-          })
+    let passed =
+    IsPassed-from_none (has_mark text) layout (sym (refusal_after_mark-of (has_mark text) rest) ∙ parts.2) in
+    let digits : AreDigits layout.digits digest =
+    record { count = length-layout_digits rest passed.is_parted.long; value = ok } in
+    let lawful : has_mark text ≡ true → has_bad_escape layout.spelled ≡ false =
+    λ marked. sym (ap (λ m. m && has_bad_escape layout.spelled) marked) ∙ passed.lawful in
+    elim (cases_Bool (is_tagged rest)) [
+      | inl tagged ↦ inr (record {
+        says = says-tagged text digest layout.digits layout.spelled digits lawful
+            (joined-tagged rest tagged passed.is_parted.long passed.is_parted.parted);
+        is_text = IsUtf8-from_is_utf8 text parts.1;
+        is_named = name_of-not_nil (has_mark text) layout.spelled passed.named;
+        is_lawful = passed.allowed;
+      })
+      | inr untagged ↦ inl (record {
+        says = says-plain text digest layout.digits layout.spelled digits lawful
+            (joined-plain rest untagged passed.is_parted.parted);
+        is_text = IsUtf8-from_is_utf8 text parts.1;
+        is_named = name_of-not_nil (has_mark text) layout.spelled passed.named;
+        is_lawful = passed.allowed;
+      })
     ]
 
 -- ---- what the line says is what is read
 
--- digits, two spaces and a lawful name pass the tests
-IsPassed-from_digits : (marked : Bool) (rest digits digest name : List ℕ) → AreDigits digits digest
-    → rest ≡ digits ++ spaces ++ name → name ≢ [] → (marked && has_bad_escape name) ≡ false
-    → holds_bad_character (name_of marked name) ≡ false
-    → IsPassed marked rest
-IsPassed-from_digits marked rest digits digest name are whole some lawful allowed =
-    let name_is : drop 66 rest ≡ name = ap (drop 66) whole ∙ cut-name digits name are.count in
-    let digits_are : take 64 rest ≡ digits = ap (take 64) whole ∙ cut-digits digits name are.count in
-    let two : take 2 (drop 64 rest) ≡ spaces =
-    ap (λ t. take 2 (drop 64 t)) whole ∙ ap (take 2) (cut-rest digits name are.count) in
-    let each = list_all-AllPass digits (decode_of-ok digits digest are.value).1 in
-    let long = ap length whole in
-    let parts = length-append (digits ++ spaces) name in
-    let front = length-append digits spaces in
-    let count = are.count in
-    record {
-      is_spaced = record {
-        long = omega (arith, long, parts, front, count);
-        digits = ap (list_all is_hex_digit) digits_are ∙ each;
-        spaced = (bytes_eq-Decides (take 2 (drop 64 rest)) spaces).1 two;
-      };
-      named = ap (λ t. length t == 0) name_is ∙ ne_eqb (length name) 0 (λ none. some (nil_from_length name none));
-      lawful = ap (λ t. marked && has_bad_escape t) name_is ∙ lawful;
-      allowed = ap (λ t. holds_bad_character (name_of marked t)) name_is ∙ allowed;
-    }
+-- digits and a lawful name pass the tests
+IsPassed-from_digits : (marked : Bool) (layout : Layout) (digits digest spelled : List ℕ) → AreDigits digits digest
+    → LiesAs layout digits spelled → spelled ≢ [] → (marked && has_bad_escape spelled) ≡ false
+    → holds_bad_character (name_of marked spelled) ≡ false
+    → IsPassed marked layout
+IsPassed-from_digits marked layout digits digest spelled are lies some lawful allowed = record {
+  is_parted = record {
+    long = lies.long;
+    digits = ap (list_all is_hex_digit) lies.digits_are
+        ∙ list_all-AllPass digits (decode_of-ok digits digest are.value).1;
+    parted = lies.parted;
+  };
+  named = ap (λ t. length t == 0) lies.spelled_is
+      ∙ ne_eqb (length spelled) 0 (λ none. some (nil_from_length spelled none));
+  lawful = ap (λ t. marked && has_bad_escape t) lies.spelled_is ∙ lawful;
+  allowed = ap (λ t. holds_bad_character (name_of marked t)) lies.spelled_is ∙ allowed;
+}
 
--- a line of a mark, digits, two spaces and a lawful name
+-- a line of a mark and of parts that lie so
 says_as : (line digest name shown digits spelled rest : List ℕ) (marked : Bool)
     → has_mark (without_return line) ≡ marked
     → after_mark (without_return line) ≡ rest → (length (without_return line) == 0) ≡ false
     → IsUtf8 (without_return line)
-    → AreDigits digits digest → rest ≡ digits ++ spaces ++ spelled → spelled ≢ []
+    → AreDigits digits digest → LiesAs (layout_of rest) digits spelled → spelled ≢ []
     → (marked && has_bad_escape spelled) ≡ false
     → holds_bad_character name ≡ false → name ≡ name_of marked spelled → shown ≡ shown_of marked spelled
     → SaysAs line digest name shown
-says_as line digest name shown digits spelled rest marked mark_is rest_is filled utf8 are whole some lawful allowed
+says_as line digest name shown digits spelled rest marked mark_is rest_is filled utf8 are lies some lawful allowed
     name_is shown_is =
     let text = without_return line in
-    let passed = IsPassed-from_digits marked rest digits digest spelled are whole some lawful
+    let passed = IsPassed-from_digits marked (layout_of rest) digits digest spelled are lies some lawful
     (ap holds_bad_character (sym name_is) ∙ allowed) in
-    let spelled_is : drop 66 (after_mark text) ≡ spelled =
-    ap (drop 66) (rest_is ∙ whole) ∙ cut-name digits spelled are.count in
+    let stands : spelled ≡ spelled_of line = sym (ap (λ r. (layout_of r).spelled) rest_is ∙ lies.spelled_is) in
     record {
       accepted =
           first_refusal-text line filled (is_utf8-from_IsUtf8 text utf8)
           ∙ ap (λ m. refusal_after_mark m (after_mark text)) mark_is ∙ ap (refusal_after_mark marked) rest_is
-          ∙ refusal-none marked rest passed;
-      digits = ap (λ t. decode_of (take 64 t)) (rest_is ∙ whole) ∙ ap decode_of (cut-digits digits spelled are.count)
-          ∙ are.value;
-      name_is = name_is ∙ ap (name_of marked) (sym spelled_is)
-          ∙ ap (λ m. name_of m (drop 66 (after_mark text))) (sym mark_is);
-      shown_is = shown_is ∙ ap (shown_of marked) (sym spelled_is)
-          ∙ ap (λ m. shown_of m (drop 66 (after_mark text))) (sym mark_is);
+          ∙ refusal_after_mark-of marked rest ∙ refusal-none marked (layout_of rest) passed;
+      digits = ap (λ r. decode_of (layout_of r).digits) rest_is ∙ ap decode_of lies.digits_are ∙ are.value;
+      name_is = name_is ∙ ap (name_of marked) stands ∙ ap (λ m. name_of m (spelled_of line)) (sym mark_is);
+      shown_is = shown_is ∙ ap (shown_of marked) stands ∙ ap (λ m. shown_of m (spelled_of line)) (sym mark_is);
     }
 
 -- digits begin with no mark
-has_mark-digits : (digits digest tail : List ℕ) → AreDigits digits digest → has_mark (digits ++ tail) ≡ false
+pub has_mark-digits : (digits digest tail : List ℕ) → AreDigits digits digest → has_mark (digits ++ tail) ≡ false
 has_mark-digits [] digest tail are = absurd (omega (arith, are.count))
 has_mark-digits (b ∷ digits) digest tail are =
     let first : is_hex_digit b ≡ true = (decode_of-ok (b ∷ digits) digest are.value).1 0 0 (omega arith) in
@@ -156,8 +214,16 @@ filled-digits : (digits digest tail : List ℕ) → AreDigits digits digest → 
 filled-digits [] digest tail are = absurd (omega (arith, are.count))
 filled-digits (b ∷ digits) digest tail are = ne_eqb _ 0 (λ none. absurd (omega (arith, none)))
 
--- what a line says, it says by its digits and its name as it stands
-pub SaysAs-from_Reads : (line digest name shown : List ℕ) → Reads line digest name shown → SaysAs line digest name shown
+-- what begins with a byte is not empty
+filled-cons : (b : ℕ) (tail : List ℕ) → (length (b ∷ tail) == 0) ≡ false
+filled-cons b tail = ne_eqb _ 0 (λ none. absurd (omega (arith, none)))
+
+-- so is a tagged line
+filled-tagged : (name digits : List ℕ) → (length (tag ++ name ++ closing ++ digits) == 0) ≡ false
+filled-tagged name digits = ne_eqb _ 0 (λ none. absurd (omega (arith, none)))
+
+-- what a plain line says, it says by its digits and its name as it stands
+SaysAs-from_Reads : (line digest name shown : List ℕ) → Reads line digest name shown → SaysAs line digest name shown
 SaysAs-from_Reads line digest name shown reads =
     let text = without_return line in
     elim reads.says [
@@ -167,23 +233,57 @@ SaysAs-from_Reads line digest name shown reads =
           ap has_mark whole ∙ has_mark-digits says.digits digest (spaces ++ name) says.digits_are in
           says_as line digest name shown says.digits name text false mark_is (cond-false (has_mark text) _ _ mark_is)
           (ap (λ t. length t == 0) whole ∙ filled-digits says.digits digest (spaces ++ name) says.digits_are)
-          reads.is_text says.digits_are says.text_is reads.is_named refl reads.is_lawful refl says.shown_is
+          reads.is_text says.digits_are (LiesAs-plain text says.digits digest name says.digits_are says.text_is)
+          reads.is_named refl reads.is_lawful refl says.shown_is
       | inr says ↦
           let spells = Spells-unescaped says.spelled name says.spells in
           let rest = says.digits ++ spaces ++ says.spelled in
           let mark_is : has_mark text ≡ true = ap has_mark says.text_is in
-          let some : says.spelled ≢ [] = λ none. reads.is_named (spells.1 ∙ ap unescaped none ∙ unescaped-nil) in
           says_as line digest name shown says.digits says.spelled rest true mark_is
           (cond-true (has_mark text) _ _ mark_is ∙ ap (drop 1) says.text_is)
-          (ap (λ t. length t == 0) says.text_is ∙ ne_eqb _ 0 (λ none. absurd (omega (arith, none))))
-          reads.is_text says.digits_are refl some spells.0
+          (ap (λ t. length t == 0) says.text_is ∙ filled-cons 92 rest)
+          reads.is_text says.digits_are (LiesAs-plain rest says.digits digest says.spelled says.digits_are refl)
+          (λ none. reads.is_named (spells.1 ∙ ap unescaped none ∙ unescaped-nil)) spells.0
           reads.is_lawful spells.1 says.shown_is
     ]
 
+-- so does a tagged one
+SaysAs-from_ReadsTagged : (line digest name shown : List ℕ) → ReadsTagged line digest name shown
+    → SaysAs line digest name shown
+SaysAs-from_ReadsTagged line digest name shown reads =
+    let text = without_return line in
+    elim reads.says [
+      | inl says ↦
+          let mark_is : has_mark text ≡ false = ap has_mark says.text_is in
+          says_as line digest name shown says.digits name text false mark_is (cond-false (has_mark text) _ _ mark_is)
+          (ap (λ t. length t == 0) says.text_is ∙ filled-tagged name says.digits)
+          reads.is_text says.digits_are (LiesAs-tagged text says.digits name says.text_is says.digits_are.count)
+          reads.is_named refl reads.is_lawful refl says.shown_is
+      | inr says ↦
+          let spells = Spells-unescaped says.spelled name says.spells in
+          let rest = tag ++ says.spelled ++ closing ++ says.digits in
+          let mark_is : has_mark text ≡ true = ap has_mark says.text_is in
+          says_as line digest name shown says.digits says.spelled rest true mark_is
+          (cond-true (has_mark text) _ _ mark_is ∙ ap (drop 1) says.text_is)
+          (ap (λ t. length t == 0) says.text_is ∙ filled-cons 92 rest)
+          reads.is_text says.digits_are (LiesAs-tagged rest says.digits says.spelled refl says.digits_are.count)
+          (λ none. reads.is_named (spells.1 ∙ ap unescaped none ∙ unescaped-nil)) spells.0
+          reads.is_lawful spells.1 says.shown_is
+    ]
+
+-- so does a line of either form
+pub SaysAs-from_IsReadAs : (line digest name shown : List ℕ) → IsReadAs line digest name shown
+    → SaysAs line digest name shown
+SaysAs-from_IsReadAs line digest name shown reads = elim reads [
+  | inl plain ↦ SaysAs-from_Reads line digest name shown plain
+  | inr tagged ↦ SaysAs-from_ReadsTagged line digest name shown tagged
+]
+
 -- and what it says so, it says
-pub Reads-from_SaysAs : (line digest name shown : List ℕ) → SaysAs line digest name shown → Reads line digest name shown
-Reads-from_SaysAs line digest name shown said =
-    rw (said.name_is, said.shown_is) (Reads-from_none line digest said.accepted said.digits)
+pub IsReadAs-from_SaysAs : (line digest name shown : List ℕ) → SaysAs line digest name shown
+    → IsReadAs line digest name shown
+IsReadAs-from_SaysAs line digest name shown said =
+    rw (said.name_is, said.shown_is) (IsReadAs-from_none line digest said.accepted said.digits)
 
 -- a line says one thing
 pub SaysAs-same : (line digest name shown digest₂ name₂ shown₂ : List ℕ) → SaysAs line digest name shown
@@ -199,7 +299,7 @@ pub SaysAs-from_parts : (line digest spelled name shown : List ℕ) (marked : Bo
     → HasParts line digest spelled marked escapes
     → name ≡ name_of marked spelled → shown ≡ shown_of marked spelled → SaysAs line digest name shown
 SaysAs-from_parts line digest spelled name shown marked escapes has name_is shown_is =
-    let stands = drop 66 (after_mark (without_return line)) in
+    let stands = spelled_of line in
     record {
       accepted = has.accepted;
       digits = has.parts.digits;
@@ -211,34 +311,35 @@ SaysAs-from_parts line digest spelled name shown marked escapes has name_is show
 
 -- a line that is not refused says one thing
 pub SaysOne-from_none : (line digest : List ℕ) → first_refusal line ≡ None
-    → decode_of (take 64 (after_mark (without_return line))) ≡ Ok digest → SaysOne line
+    → decode_of (layout_of (rest_of line)).digits ≡ Ok digest → SaysOne line
 SaysOne-from_none line digest none ok = record {
   digest = digest;
-  name = name_of (has_mark (without_return line)) (drop 66 (after_mark (without_return line)));
-  shown = shown_of (has_mark (without_return line)) (drop 66 (after_mark (without_return line)));
-  reads = Reads-from_none line digest none ok;
+  name = name_of (has_mark (without_return line)) (spelled_of line);
+  shown = shown_of (has_mark (without_return line)) (spelled_of line);
+  reads = IsReadAs-from_none line digest none ok;
   only = λ d n s reads.
-      let said = SaysAs-from_Reads line d n s reads in
+      let said = SaysAs-from_IsReadAs line d n s reads in
       (decode_of-same _ d digest said.digits ok, said.name_is, said.shown_is);
 }
 
 -- the digits of a line that is not refused decode
 digest_of : (line : List ℕ) → first_refusal line ≡ None
-    → (digest : List ℕ) × (decode_of (take 64 (after_mark (without_return line))) ≡ Ok digest)
+    → (digest : List ℕ) × (decode_of (layout_of (rest_of line)).digits ≡ Ok digest)
 digest_of line none =
-    let text = without_return line in
-    let passed = IsPassed-from_none (has_mark text) (after_mark text) (text-from_none line none).2 in
-    digest-from_digits (take 64 (after_mark text))
-    (length-take-le 64 (after_mark text) (omega (arith, passed.is_spaced.long))) passed.is_spaced.digits
+    let mark = has_mark (without_return line) in
+    let rest = rest_of line in
+    let passed = IsPassed-from_none mark (layout_of rest)
+    (sym (refusal_after_mark-of mark rest) ∙ (text-from_none line none).2) in
+    digest-from_digits (layout_of rest).digits (length-layout_digits rest passed.is_parted.long) passed.is_parted.digits
 
 -- the outcome of a line, by its first refusal
 one_outcome_at : (line : List ℕ) (refusal : Option LineFault) → first_refusal line ≡ refusal
-    → MatchOption refusal (SaysOne line) (λ _. (digest name shown : List ℕ) → ¬ Reads line digest name shown)
+    → MatchOption refusal (SaysOne line) (λ _. (digest name shown : List ℕ) → ¬ IsReadAs line digest name shown)
 one_outcome_at line None none =
     let found = digest_of line none in
     SaysOne-from_none line found.0 none found.1
 one_outcome_at line (Some fault) refused = λ digest name shown reads.
-    cc (sym refused ∙ (SaysAs-from_Reads line digest name shown reads).accepted)
+    cc (sym refused ∙ (SaysAs-from_IsReadAs line digest name shown reads).accepted)
 
 -- each line is refused by one fault, or says one thing, and never both
 pub one_outcome : (line : List ℕ) → HasOneOutcome line

@@ -4,16 +4,16 @@ use Rattle.std.specs.Prelude.{IsUtf8}
 use Rattle.std.specs.List.{list_any}
 use Rattle.std.proofs.lemmas.Bool.{both_ways, cases_Bool, cases_eq, cond-false, cond-true, false_from_ne_true, ne_eqb, or_from}
 use Rattle.std.proofs.lemmas.List.{get_or-append_right, length-append, nil_from_length}
-use Rattle.std.proofs.lemmas.List.Folds.{list_any-append, list_any_at}
-use Rattle.hex.specs.Hex.{IsBytes, encode_lower, lower_digits}
-use Rattle.hex.proofs.HexLemmas.{decode_of-encode_lower, length-encode_with}
+use Rattle.std.proofs.lemmas.List.Folds.{list_any-append, list_any_at, list_any_none}
+use Rattle.hex.specs.Hex.{IsBytes, encode_lower, is_hex_digit, lower_digits}
+use Rattle.hex.proofs.HexLemmas.{decode_of-encode_lower, decode_of-ok, length-encode_with}
 use Rattle.b3_lines.specs.Names.{unescaped, Piece, Spells, backslash, carriage_return, escape, escaped, holds_bad_character, is_escaped, itself, line_feed, meaning, spelling}
-use Rattle.b3_lines.specs.Reading.{AreDigits, Reads, without_return}
-use Rattle.b3_lines.specs.Writing.{is_marked, mark, plain_text, shown, spaces}
+use Rattle.b3_lines.specs.Reading.{AreDigits, Reads, ReadsTagged, without_return}
+use Rattle.b3_lines.specs.Writing.{closing, is_marked, mark, plain_text, shown, spaces, tag, tagged_text}
 use Rattle.b3_lines.proofs.Escapes.{Spells-unescaped, escape-itself, escaped-cons, escaped-nil, unescaped-nil}
 use Rattle.b3_lines.proofs.Refusals.{without_return-cond}
 use Rattle.b3_lines.proofs.Marks.{escaped-unmarked, shown-marked, shown-unmarked}
-use Rattle.b3_lines.proofs.Texts.{IsUtf8-plain}
+use Rattle.b3_lines.proofs.Texts.{IsUtf8-plain, IsUtf8-tagged}
 
 -- ---- the escaped name spells the name
 
@@ -159,6 +159,68 @@ Reads-plain digest name count bytes some allowed utf8 =
         })
       ];
       is_text = subst IsUtf8 (sym same) (IsUtf8-plain digest name utf8);
+      is_named = some;
+      is_lawful = allowed;
+    }
+
+-- ---- tagged
+
+-- digits hold no carriage return
+no_return-digits : (digits digest : List ℕ) → AreDigits digits digest → list_any (λ x. x == 13) digits ≡ false
+no_return-digits digits digest are =
+    let each = (decode_of-ok digits digest are.value).1 in
+    list_any_none (λ x. x == 13) digits
+    (λ k d within. ne_eqb _ 13 (λ is. cc (sym (each k d within) ∙ ap is_hex_digit is)))
+
+-- a tagged line that was written has no carriage return at its end
+without_return-tagged : (digest name : List ℕ) → length digest ≡ 32 → IsBytes digest
+    → without_return (tagged_text digest name) ≡ tagged_text digest name
+unfolding tagged_text
+without_return-tagged digest name count bytes =
+    let digits = AreDigits-encode_lower digest count bytes in
+    without_return-same (mark name ++ tag ++ escaped name ++ closing) (encode_lower digest)
+    (λ none. absurd (omega (arith, digits.count, ap length none))) (no_return-digits (encode_lower digest) digest digits)
+
+-- the tagged line of a marked name
+tagged-marked : (digest name : List ℕ) → is_marked name ≡ true
+    → tagged_text digest name ≡ 92 ∷ (tag ++ escaped name ++ closing ++ encode_lower digest)
+unfolding tagged_text
+tagged-marked digest name marked =
+    ap (λ m. m ++ tag ++ escaped name ++ closing ++ encode_lower digest) (cond-true (is_marked name) _ _ marked)
+
+-- and of a name without mark
+tagged-unmarked : (digest name : List ℕ) → is_marked name ≡ false
+    → tagged_text digest name ≡ tag ++ name ++ closing ++ encode_lower digest
+unfolding tagged_text
+tagged-unmarked digest name unmarked =
+    ap (λ m. m ++ tag ++ escaped name ++ closing ++ encode_lower digest) (cond-false (is_marked name) _ _ unmarked)
+    ∙ ap (λ t. tag ++ t ++ closing ++ encode_lower digest) (escaped-unmarked name unmarked)
+
+-- a tagged line reads back as a plain one does
+pub ReadsTagged-tagged : (digest name : List ℕ) → length digest ≡ 32 → IsBytes digest → name ≢ []
+    → holds_bad_character name ≡ false
+    → IsUtf8 name → ReadsTagged (tagged_text digest name) digest name (shown name)
+ReadsTagged-tagged digest name count bytes some allowed utf8 =
+    let same = without_return-tagged digest name count bytes in
+    let digits = AreDigits-encode_lower digest count bytes in
+    record {
+      says = elim (cases_Bool (is_marked name)) [
+        | inl marked ↦ inr (record {
+          digits = encode_lower digest;
+          spelled = escaped name;
+          digits_are = digits;
+          text_is = same ∙ tagged-marked digest name marked;
+          spells = Spells-escaped name;
+          shown_is = shown-marked name marked;
+        })
+        | inr unmarked ↦ inl (record {
+          digits = encode_lower digest;
+          digits_are = digits;
+          text_is = same ∙ tagged-unmarked digest name unmarked;
+          shown_is = shown-unmarked name unmarked;
+        })
+      ];
+      is_text = subst IsUtf8 (sym same) (IsUtf8-tagged digest name utf8);
       is_named = some;
       is_lawful = allowed;
     }

@@ -1,19 +1,21 @@
 -- Which refusal of a line is the first: the tests that lead to each, and what a line that is not refused has passed.
-use Rattle.std.proofs.Common.{◌≡◌, ℕ, ◌+◌, ◌-◌, ◌<◌, ◌≤◌, Bool, true, false, not, ◌&&◌, ◌==◌, nat_lt, List, [], ◌∷◌, length, take, drop, slice_index, Bor, Option, Some, None, cond, unwrap_or, refl, sym, ap, ◌∙◌, arith}
-use Rattle.std.specs.Prelude.{IsUtf8, MatchOption, bytes_eq, nat_eq, if◌then◌else◌}
+use Rattle.std.proofs.Common.{◌≡◌, ℕ, ◌+◌, ◌-◌, ◌<◌, Bool, true, false, not, ◌&&◌, ◌==◌, List, [], ◌∷◌, length, take, drop, slice_index, Bor, Option, Some, None, cond, unwrap_or, refl, sym, ap, ◌∙◌, arith}
+use Rattle.std.specs.Prelude.{IsUtf8, MatchOption, nat_eq, if◌then◌else◌}
 use Rattle.std.specs.List.{list_all}
 use Rattle.std.specs.Str.{is_utf8}
 use Rattle.std.specs.Cmp.Lexicographic.{pointwise}
 use Rattle.std.proofs.lemmas.List.{drop_all, drop_more}
 use Rattle.std.proofs.lemmas.Str.{is_utf8-from_IsUtf8}
 use Rattle.std.proofs.Math.Bool.{and-true}
-use Rattle.std.proofs.lemmas.Bool.{cond-true, cond-false, ltb-false, lt-ltb, le-ltb, not_from_false, not_from_true}
+use Rattle.std.proofs.lemmas.Bool.{cond-true, cond-false, not_from_false, not_from_true}
 use Rattle.hex.specs.Hex.{is_hex_digit}
+use Rattle.hex.proofs.HexLemmas.{decode_of-ok}
 use Rattle.b3_lines.specs.declared.fault.LineFault.{LineFault}
 use Rattle.b3_lines.specs.declared.fault.LineFault.TheVariants.{Empty, NotText, Short, NotDigits, NoSpaces, NoName, BadEscape, BadCharacter, Memory}
 use Rattle.b3_lines.specs.Names.{has_bad_escape, holds_bad_character}
-use Rattle.b3_lines.specs.Reading.{after_mark, first_refusal, has_mark, name_of, refusal_after_mark, without_return}
-use Rattle.b3_lines.specs.Writing.{spaces}
+use Rattle.b3_lines.specs.Parts.{IsCut}
+use Rattle.b3_lines.specs.Reading.{Layout, after_mark, first_refusal, has_mark, layout_of, name_of, refusal_after_mark, refusal_of, without_return}
+use Rattle.b3_lines.proofs.DigitsAndSpaces.{list_all-AllPass}
 
 -- six tests in a row
 abbrev six : Bool → Bool → Bool → Bool → Bool → Bool → Option LineFault
@@ -66,89 +68,94 @@ two-not_memory true _ later not_later memory = cc memory
 two-not_memory false false later not_later memory = cc memory
 two-not_memory false true later not_later memory = not_later memory
 
--- what follows the mark has passed the tests up to its spaces
-pub record IsSpaced (rest : List ℕ) : Type 0 where
-  pub long : 66 ≤ length rest
-  pub digits : list_all is_hex_digit (take 64 rest) ≡ true
-  pub spaced : bytes_eq (take 2 (drop 64 rest)) spaces ≡ true
+module _ (layout : Layout) where
+  -- all tests are passed but those of the name
+  pub record IsParted : Type 0 where
+    pub long : layout.is_short ≡ false
+    pub digits : list_all is_hex_digit layout.digits ≡ true
+    pub parted : layout.is_parted ≡ true
 
-module _ (marked : Bool) (rest : List ℕ) where
-  -- the name as it stands
-  abbrev spelled : List ℕ
-  spelled = drop 66 rest
+  -- so they are by parts that were cut out
+  pub IsParted-from_cut : {digest spelled : List ℕ} → IsCut layout digest spelled → IsParted
+  IsParted-from_cut {digest} {spelled} cut = record {
+    long = cut.long;
+    digits = list_all-AllPass layout.digits (decode_of-ok layout.digits digest cut.digits).1;
+    parted = cut.parted;
+  }
 
-  -- it has passed all tests
+module _ (marked : Bool) (layout : Layout) where
+  -- all tests are passed
   pub record IsPassed : Type 0 where
-    pub is_spaced : IsSpaced rest
-    pub named : (length spelled == 0) ≡ false
-    pub lawful : (marked && has_bad_escape spelled) ≡ false
-    pub allowed : holds_bad_character (name_of marked spelled) ≡ false
+    pub is_parted : IsParted layout
+    pub named : (length layout.spelled == 0) ≡ false
+    pub lawful : (marked && has_bad_escape layout.spelled) ≡ false
+    pub allowed : holds_bad_character (name_of marked layout.spelled) ≡ false
 
-  -- the first refusal is the first of six tests
-  refusal-six : refusal_after_mark marked rest
-      ≡ six (nat_lt (length rest) 66) (list_all is_hex_digit (take 64 rest)) (bytes_eq (take 2 (drop 64 rest)) spaces)
-      (length spelled == 0) (marked && has_bad_escape spelled) (holds_bad_character (name_of marked spelled))
-  unfolding refusal_after_mark
-  refusal-six = refl
+  -- too few bytes
+  pub refusal-short : layout.is_short ≡ true → refusal_of marked layout ≡ Some Short
+  refusal-short short = cond-true _ _ _ short
 
-  -- fewer than 66 bytes
-  pub refusal-short : length rest < 66 → refusal_after_mark marked rest ≡ Some Short
-  refusal-short short = refusal-six ∙ cond-true _ _ _ (lt-ltb _ _ short)
+  -- a byte in the place of a digit that is none
+  pub refusal-not_digits : layout.is_short ≡ false → list_all is_hex_digit layout.digits ≡ false
+      → refusal_of marked layout ≡ Some NotDigits
+  refusal-not_digits long bad = cond-false _ _ _ long ∙ cond-true _ _ _ (not_from_false _ bad)
 
-  -- a byte among the first 64 that is no digit
-  pub refusal-not_digits : 66 ≤ length rest → list_all is_hex_digit (take 64 rest) ≡ false
-      → refusal_after_mark marked rest ≡ Some NotDigits
-  refusal-not_digits long bad =
-      refusal-six ∙ cond-false _ _ _ (le-ltb _ _ long) ∙ cond-true _ _ _ (not_from_false _ bad)
-
-  -- no two spaces behind the digits
-  pub refusal-no_spaces : 66 ≤ length rest → list_all is_hex_digit (take 64 rest) ≡ true
-      → bytes_eq (take 2 (drop 64 rest)) spaces ≡ false → refusal_after_mark marked rest ≡ Some NoSpaces
+  -- not what must stand between digits and name
+  pub refusal-no_spaces : layout.is_short ≡ false → list_all is_hex_digit layout.digits ≡ true
+      → layout.is_parted ≡ false → refusal_of marked layout ≡ Some NoSpaces
   refusal-no_spaces long digits bad =
-      refusal-six ∙ cond-false _ _ _ (le-ltb _ _ long) ∙ cond-false _ _ _ (not_from_true _ digits)
-      ∙ cond-true _ _ _ (not_from_false _ bad)
+      cond-false _ _ _ long ∙ cond-false _ _ _ (not_from_true _ digits) ∙ cond-true _ _ _ (not_from_false _ bad)
 
-  -- behind the spaces three tests are left
-  refusal-spaced : IsSpaced rest → refusal_after_mark marked rest
-      ≡ (if length spelled == 0 then Some NoName
-      else if marked && has_bad_escape spelled then Some BadEscape
-      else if holds_bad_character (name_of marked spelled) then Some BadCharacter
+  -- then three tests are left
+  refusal-parted : IsParted layout → refusal_of marked layout
+      ≡ (if length layout.spelled == 0 then Some NoName
+      else if marked && has_bad_escape layout.spelled then Some BadEscape
+      else if holds_bad_character (name_of marked layout.spelled) then Some BadCharacter
       else None)
-  refusal-spaced spaced =
-      refusal-six ∙ cond-false _ _ _ (le-ltb _ _ spaced.long) ∙ cond-false _ _ _ (not_from_true _ spaced.digits)
-      ∙ cond-false _ _ _ (not_from_true _ spaced.spaced)
+  refusal-parted is =
+      cond-false _ _ _ is.long ∙ cond-false _ _ _ (not_from_true _ is.digits)
+      ∙ cond-false _ _ _ (not_from_true _ is.parted)
 
-  -- nothing behind the spaces
-  pub refusal-no_name : IsSpaced rest → (length spelled == 0) ≡ true → refusal_after_mark marked rest ≡ Some NoName
-  refusal-no_name spaced empty = refusal-spaced spaced ∙ cond-true _ _ _ empty
+  -- no name
+  pub refusal-no_name : IsParted layout → (length layout.spelled == 0) ≡ true → refusal_of marked layout ≡ Some NoName
+  refusal-no_name is empty = refusal-parted is ∙ cond-true _ _ _ empty
 
   -- a bad escape in a marked line
-  pub refusal-bad_escape : IsSpaced rest → (length spelled == 0) ≡ false → (marked && has_bad_escape spelled) ≡ true
-      → refusal_after_mark marked rest ≡ Some BadEscape
-  refusal-bad_escape spaced named bad = refusal-spaced spaced ∙ cond-false _ _ _ named ∙ cond-true _ _ _ bad
+  pub refusal-bad_escape : IsParted layout → (length layout.spelled == 0) ≡ false
+      → (marked && has_bad_escape layout.spelled) ≡ true → refusal_of marked layout ≡ Some BadEscape
+  refusal-bad_escape is named bad = refusal-parted is ∙ cond-false _ _ _ named ∙ cond-true _ _ _ bad
 
   -- NUL or U+FFFD in the name
-  pub refusal-bad_character : IsSpaced rest → (length spelled == 0) ≡ false → (marked && has_bad_escape spelled) ≡ false
-      → holds_bad_character (name_of marked spelled) ≡ true → refusal_after_mark marked rest ≡ Some BadCharacter
-  refusal-bad_character spaced named lawful bad =
-      refusal-spaced spaced ∙ cond-false _ _ _ named ∙ cond-false _ _ _ lawful ∙ cond-true _ _ _ bad
+  pub refusal-bad_character : IsParted layout → (length layout.spelled == 0) ≡ false
+      → (marked && has_bad_escape layout.spelled) ≡ false
+      → holds_bad_character (name_of marked layout.spelled) ≡ true → refusal_of marked layout ≡ Some BadCharacter
+  refusal-bad_character is named lawful bad =
+      refusal-parted is ∙ cond-false _ _ _ named ∙ cond-false _ _ _ lawful ∙ cond-true _ _ _ bad
 
   -- what has passed all tests is not refused
-  pub refusal-none : IsPassed → refusal_after_mark marked rest ≡ None
+  pub refusal-none : IsPassed → refusal_of marked layout ≡ None
   refusal-none passed =
-      refusal-spaced passed.is_spaced ∙ cond-false _ _ _ passed.named ∙ cond-false _ _ _ passed.lawful
+      refusal-parted passed.is_parted ∙ cond-false _ _ _ passed.named ∙ cond-false _ _ _ passed.lawful
       ∙ cond-false _ _ _ passed.allowed
 
   -- what is not refused has passed all tests
-  pub IsPassed-from_none : refusal_after_mark marked rest ≡ None → IsPassed
+  pub IsPassed-from_none : refusal_of marked layout ≡ None → IsPassed
   IsPassed-from_none none =
-      let parts = six-none _ _ _ _ _ _ (sym refusal-six ∙ none) in
+      let parts = six-none layout.is_short (list_all is_hex_digit layout.digits) layout.is_parted
+      (length layout.spelled == 0) (marked && has_bad_escape layout.spelled)
+      (holds_bad_character (name_of marked layout.spelled)) none in
       record {
-        is_spaced = record { long = ltb-false (length rest) 66 parts.0; digits = parts.1; spaced = parts.2 };
+        is_parted = record { long = parts.0; digits = parts.1; parted = parts.2 };
         named = parts.3;
         lawful = parts.4;
         allowed = parts.5;
       }
+
+-- what follows the mark is refused as its parts are
+pub refusal_after_mark-of : (marked : Bool) (rest : List ℕ)
+    → refusal_after_mark marked rest ≡ refusal_of marked (layout_of rest)
+unfolding refusal_after_mark
+refusal_after_mark-of marked rest = refl
 
 module _ (line : List ℕ) where
   -- the line without its end
@@ -184,7 +191,12 @@ module _ (line : List ℕ) where
   pub first_refusal-not_memory : first_refusal line ≡ Some Memory → ⊥
   first_refusal-not_memory memory =
       two-not_memory _ _ _
-      (λ later. six-not_memory _ _ _ _ _ _ (sym (refusal-six (has_mark text) (after_mark text)) ∙ later))
+      (λ later.
+      let layout = layout_of (after_mark text) in
+      six-not_memory layout.is_short (list_all is_hex_digit layout.digits) layout.is_parted
+      (length layout.spelled == 0) (has_mark text && has_bad_escape layout.spelled)
+      (holds_bad_character (name_of (has_mark text) layout.spelled))
+      (sym (refusal_after_mark-of (has_mark text) (after_mark text)) ∙ later))
       (sym first_refusal-two ∙ memory)
 
 -- the first refusal of a text is that of what follows its mark

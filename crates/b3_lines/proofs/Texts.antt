@@ -11,7 +11,7 @@ use Rattle.std.proofs.lemmas.Str.Ascii.{IsAscii-cons, IsAscii-from_all, IsAscii-
 use Rattle.hex.specs.Hex.{encode_lower, lower_digits}
 use Rattle.hex.proofs.HexLemmas.{IsAscii-encode_with}
 use Rattle.b3_lines.specs.Names.{escape, escaped}
-use Rattle.b3_lines.specs.Writing.{is_marked, mark, plain_text, shown, spaces}
+use Rattle.b3_lines.specs.Writing.{closing, is_marked, mark, plain_text, shown, spaces, tag, tagged_text}
 use Rattle.b3_lines.proofs.Escapes.{escaped-append, escaped-ascii, escaped-cons, escaped-nil, escaped-none}
 
 -- the bytes of a character that is not ASCII are not escaped
@@ -58,28 +58,40 @@ IsUtf8-escaped_characters (c ∷ cs) are =
 pub IsUtf8-escaped : (name : List ℕ) → IsUtf8 name → IsUtf8 (escaped name)
 IsUtf8-escaped name utf8 = subst (λ t. IsUtf8 (escaped t)) utf8.1.1 (IsUtf8-escaped_characters utf8.0 utf8.1.0)
 
--- the mark, the digits and the spaces are ASCII
+-- the mark is ASCII
 IsUtf8-mark : (name : List ℕ) → IsUtf8 (mark name)
 IsUtf8-mark name =
     cond_both (is_marked name) _ _ IsUtf8
     (λ _. IsUtf8-from_ascii (92 ∷ []) (IsAscii-cons 92 [] (omega arith) IsAscii-nil)) (λ _. IsUtf8-nil)
 
--- the digits are ASCII
-IsAscii-lower_digits : IsAscii lower_digits
-IsAscii-lower_digits =
+-- bytes below 128 are ASCII
+IsAscii-all : (s : List ℕ) → list_all (λ b. nat_lt b 128) s ≡ true → IsAscii s
+IsAscii-all s each =
     let ascii : ℕ → Bool = λ b. nat_lt b 128 in
-    IsAscii-from_all lower_digits
-    (λ k d within. ltb-true _ 128 (and_at (list_all ascii) ascii refl (λ _ _. refl) lower_digits k d within refl))
+    IsAscii-from_all s
+    (λ k d within. ltb-true _ 128 (and_at (list_all ascii) ascii refl (λ _ _. refl) s k d within each))
 
--- a line is text
+-- digits are text
+IsUtf8-encode_lower : (digest : List ℕ) → IsUtf8 (encode_lower digest)
+IsUtf8-encode_lower digest =
+    IsUtf8-from_ascii (encode_lower digest) (IsAscii-encode_with lower_digits digest (IsAscii-all lower_digits refl))
+
+-- a plain line is text
 pub IsUtf8-plain : (digest name : List ℕ) → IsUtf8 name → IsUtf8 (plain_text digest name)
 unfolding plain_text
 IsUtf8-plain digest name utf8 =
-    let digits = IsUtf8-from_ascii (encode_lower digest)
-    (IsAscii-encode_with lower_digits digest IsAscii-lower_digits) in
-    let gap = IsUtf8-from_ascii spaces
-    (IsAscii-cons 32 (32 ∷ []) (omega arith) (IsAscii-cons 32 [] (omega arith) IsAscii-nil)) in
-    IsUtf8-append _ _ (IsUtf8-append _ _ (IsUtf8-append _ _ (IsUtf8-mark name) digits) gap) (IsUtf8-escaped name utf8)
+    let gap = IsUtf8-from_ascii spaces (IsAscii-all spaces refl) in
+    IsUtf8-append _ _ (IsUtf8-append _ _ (IsUtf8-append _ _ (IsUtf8-mark name) (IsUtf8-encode_lower digest)) gap)
+    (IsUtf8-escaped name utf8)
+
+-- so is a tagged one
+pub IsUtf8-tagged : (digest name : List ℕ) → IsUtf8 name → IsUtf8 (tagged_text digest name)
+unfolding tagged_text
+IsUtf8-tagged digest name utf8 =
+    let begun = IsUtf8-append _ _ (IsUtf8-mark name) (IsUtf8-from_ascii tag (IsAscii-all tag refl)) in
+    let named = IsUtf8-append _ _ begun (IsUtf8-escaped name utf8) in
+    let closed = IsUtf8-append _ _ named (IsUtf8-from_ascii closing (IsAscii-all closing refl)) in
+    IsUtf8-append _ _ closed (IsUtf8-encode_lower digest)
 
 -- a shown form is text
 pub IsUtf8-shown : (name : List ℕ) → IsUtf8 name → IsUtf8 (shown name)

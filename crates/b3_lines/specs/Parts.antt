@@ -1,19 +1,26 @@
 -- The parts of a line that is accepted, before its texts are made.
-use Rattle.std.specs.Prelude.{◌≡◌, ℕ, ◌+◌, Bool, true, false, if◌then◌else◌, List, ◌∷◌, length, take, drop, None, Ok}
+use Rattle.std.specs.Prelude.{◌≡◌, ℕ, ◌+◌, Bool, true, false, if◌then◌else◌, List, ◌∷◌, length, None, Ok}
 use Rattle.hex.specs.Hex.{decode_of}
 use Rattle.b3_lines.specs.Names.{has_bad_escape, unescaped}
-use Rattle.b3_lines.specs.Reading.{after_mark, first_refusal, has_mark, refusal_after_mark, without_return}
+use Rattle.b3_lines.specs.Reading.{Layout, after_mark, first_refusal, has_mark, layout_of, refusal_after_mark, without_return}
 
 -- the shown form of the name that stands in a line as `spelled`
 abbrev pub shown_of : Bool → List ℕ → List ℕ
 shown_of marked spelled = if marked then 92 ∷ spelled else spelled
 
+-- parts that lie so pass the tests of all but the name, and say this digest and this name as it stands
+pub record IsCut (layout : Layout) (digest spelled : List ℕ) : Type 0 where
+  pub long : layout.is_short ≡ false
+  pub digits : decode_of layout.digits ≡ Ok digest
+  pub parted : layout.is_parted ≡ true
+  pub spelling : spelled ≡ layout.spelled
+
 -- what follows the mark is not refused, and has these parts: the digest, the name as it stands,
 -- and how many escapes the name of a marked line has
 pub record AreParts (marked : Bool) (rest digest spelled : List ℕ) (escapes : ℕ) : Type 0 where
   pub accepted : refusal_after_mark marked rest ≡ None
-  pub digits : decode_of (take 64 rest) ≡ Ok digest
-  pub spelling : spelled ≡ drop 66 rest
+  pub digits : decode_of (layout_of rest).digits ≡ Ok digest
+  pub spelling : spelled ≡ (layout_of rest).spelled
   pub lawful : marked ≡ true → has_bad_escape spelled ≡ false
   pub counted : marked ≡ true → length (unescaped spelled) + escapes ≡ length spelled
 

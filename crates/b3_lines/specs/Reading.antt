@@ -1,12 +1,12 @@
 -- Check lines as they are read: what an accepted line says, and the first refusal of any other.
-use Rattle.std.specs.Prelude.{◌≡◌, ◌≢◌, ◌⊎◌, ℕ, ◌-◌, ◌==◌, ◌&&◌, Bool, false, not, nat_lt, if◌then◌else◌, List, [], ◌∷◌, ◌++◌, length, take, drop, slice_index, Option, Some, None, MatchOption, Ok, IsUtf8, bytes_eq}
-use Rattle.std.specs.List.{list_all}
+use Rattle.std.specs.Prelude.{◌≡◌, ◌≢◌, ◌⊎◌, ℕ, ◌-◌, ◌==◌, ◌&&◌, Bool, false, not, nat_lt, if◌then◌else◌, List, [], ◌∷◌, ◌++◌, length, take, drop, slice_index, Option, Some, None, MatchOption, Ok, IsUtf8, bytes_eq, nat_eq}
+use Rattle.std.specs.List.{list_all, starts_with}
 use Rattle.std.specs.Str.{is_utf8}
 use Rattle.hex.specs.Hex.{decode_of, is_hex_digit}
 use Rattle.b3_lines.specs.declared.fault.LineFault.{LineFault}
 use Rattle.b3_lines.specs.declared.fault.LineFault.TheVariants.{Empty, NotText, Short, NotDigits, NoSpaces, NoName, BadEscape, BadCharacter}
 use Rattle.b3_lines.specs.Names.{Spells, has_bad_escape, holds_bad_character, unescaped}
-use Rattle.b3_lines.specs.Writing.{spaces}
+use Rattle.b3_lines.specs.Writing.{closing, spaces, tag}
 
 -- the line, with one carriage return at its very end taken away
 unfoldable pub without_return : List ℕ → List ℕ
@@ -35,12 +35,40 @@ pub record SaysMarked (text digest name shown : List ℕ) : Type 0 where
   pub spells : Spells spelled name
   pub shown_is : shown ≡ 92 ∷ spelled
 
--- an accepted line, and the digest, the name and the shown name that it says
+-- an accepted plain line, and the digest, the name and the shown name that it says
 pub record Reads (line digest name shown : List ℕ) : Type 0 where
   pub says : SaysUnmarked (without_return line) digest name shown ⊎ SaysMarked (without_return line) digest name shown
   pub is_text : IsUtf8 (without_return line)
   pub is_named : name ≢ []
   pub is_lawful : holds_bad_character name ≡ false
+
+-- `BLAKE3 (`, the name as it stands, `) = ` and digits
+pub record SaysTagged (text digest name shown : List ℕ) : Type 0 where
+  pub digits : List ℕ
+  pub digits_are : AreDigits digits digest
+  pub text_is : text ≡ tag ++ name ++ closing ++ digits
+  pub shown_is : shown ≡ name
+
+-- `\`, `BLAKE3 (`, pieces that spell the name, `) = ` and digits
+pub record SaysMarkedTagged (text digest name shown : List ℕ) : Type 0 where
+  pub digits : List ℕ
+  pub spelled : List ℕ
+  pub digits_are : AreDigits digits digest
+  pub text_is : text ≡ 92 ∷ (tag ++ spelled ++ closing ++ digits)
+  pub spells : Spells spelled name
+  pub shown_is : shown ≡ 92 ∷ spelled
+
+-- an accepted tagged line, and the digest, the name and the shown name that it says
+pub record ReadsTagged (line digest name shown : List ℕ) : Type 0 where
+  pub says : SaysTagged (without_return line) digest name shown
+      ⊎ SaysMarkedTagged (without_return line) digest name shown
+  pub is_text : IsUtf8 (without_return line)
+  pub is_named : name ≢ []
+  pub is_lawful : holds_bad_character name ≡ false
+
+-- an accepted line of either form
+abbrev pub IsReadAs : List ℕ → List ℕ → List ℕ → List ℕ → Type 0
+IsReadAs line digest name shown = Reads line digest name shown ⊎ ReadsTagged line digest name shown
 
 -- whether a line is marked: its first byte is `\`
 abbrev pub has_mark : List ℕ → Bool
@@ -54,17 +82,56 @@ after_mark text = if has_mark text then drop 1 text else text
 abbrev pub name_of : Bool → List ℕ → List ℕ
 name_of marked spelled = if marked then unescaped spelled else spelled
 
+-- how the parts of a line lie in what follows its mark: whether that has too few bytes for them, the digits,
+-- whether what must stand between digits and name does, and the name as it stands
+pub record Layout : Type 0 where
+  pub is_short : Bool
+  pub digits : List ℕ
+  pub is_parted : Bool
+  pub spelled : List ℕ
+
+-- the first 64 bytes, two spaces, and what follows
+abbrev pub plain_layout : List ℕ → Layout
+plain_layout rest = record {
+  is_short = nat_lt (length rest) 66;
+  digits = take 64 rest;
+  is_parted = bytes_eq (take 2 (drop 64 rest)) spaces;
+  spelled = drop 66 rest;
+}
+
+-- the last 64 bytes, `) = ` in front of them, and what is left behind the first eight
+abbrev pub tagged_layout : List ℕ → Layout
+tagged_layout rest =
+    let start = length rest - 64 in
+    record {
+      is_short = nat_lt (length rest) 76;
+      digits = drop start rest;
+      is_parted = bytes_eq (take 4 (drop (start - 4) rest)) closing;
+      spelled = take (start - 12) (drop 8 rest);
+    }
+
+-- whether what follows the mark is read as tagged: it begins with `BLAKE3 (`
+abbrev pub is_tagged : List ℕ → Bool
+is_tagged rest = starts_with nat_eq rest tag
+
+-- how the parts of a line lie in what follows its mark
+abbrev pub layout_of : List ℕ → Layout
+layout_of rest = if is_tagged rest then tagged_layout rest else plain_layout rest
+
+-- the first refusal that holds of parts that lie so
+abbrev pub refusal_of : Bool → Layout → Option LineFault
+refusal_of marked layout =
+    if layout.is_short then Some Short
+    else if not (list_all is_hex_digit layout.digits) then Some NotDigits
+    else if not layout.is_parted then Some NoSpaces
+    else if length layout.spelled == 0 then Some NoName
+    else if marked && has_bad_escape layout.spelled then Some BadEscape
+    else if holds_bad_character (name_of marked layout.spelled) then Some BadCharacter
+    else None
+
 -- the first refusal that holds of what follows the mark
 unfoldable pub refusal_after_mark : Bool → List ℕ → Option LineFault
-refusal_after_mark marked rest =
-    let spelled = drop 66 rest in
-    if nat_lt (length rest) 66 then Some Short
-    else if not (list_all is_hex_digit (take 64 rest)) then Some NotDigits
-    else if not (bytes_eq (take 2 (drop 64 rest)) spaces) then Some NoSpaces
-    else if length spelled == 0 then Some NoName
-    else if marked && has_bad_escape spelled then Some BadEscape
-    else if holds_bad_character (name_of marked spelled) then Some BadCharacter
-    else None
+refusal_after_mark marked rest = refusal_of marked (layout_of rest)
 
 -- the first refusal that holds of a line
 unfoldable pub first_refusal : List ℕ → Option LineFault
@@ -79,10 +146,15 @@ pub record SaysOne (line : List ℕ) : Type 0 where
   pub digest : List ℕ
   pub name : List ℕ
   pub shown : List ℕ
-  pub reads : Reads line digest name shown
-  pub only : (d n s : List ℕ) → Reads line d n s → (d ≡ digest) × (n ≡ name) × (s ≡ shown)
+  pub reads : IsReadAs line digest name shown
+  pub only : (d n s : List ℕ) → IsReadAs line d n s → (d ≡ digest) × (n ≡ name) × (s ≡ shown)
 
 -- a line that is not refused says one thing, and one that is refused says nothing
 abbrev pub HasOneOutcome : List ℕ → Type 0
 HasOneOutcome line =
-    MatchOption (first_refusal line) (SaysOne line) (λ _. (digest name shown : List ℕ) → ¬ Reads line digest name shown)
+    MatchOption (first_refusal line) (SaysOne line) (λ _. (digest name shown : List ℕ) → ¬ IsReadAs line digest name shown)
+
+-- no accepted plain line begins with `BLAKE3 (`, and so no line is read both ways
+pub record HasOneForm (line : List ℕ) : Type 0 where
+  pub plain : (digest name shown rest : List ℕ) → Reads line digest name shown → line ≢ tag ++ rest
+  pub one : (digest name shown d n s : List ℕ) → Reads line digest name shown → ¬ ReadsTagged line d n s

@@ -1,5 +1,5 @@
 -- Check lines as they are written.
-use Rattle.std.specs.Prelude.{Bool, if◌then◌else◌, ℕ, List, [], ◌∷◌, ◌++◌}
+use Rattle.std.specs.Prelude.{Bool, if◌then◌else◌, ℕ, List, [], ◌∷◌, ◌++◌, codes}
 use Rattle.std.specs.List.{list_any}
 use Rattle.hex.specs.Hex.{encode_lower}
 use Rattle.b3_lines.specs.Names.{is_escaped, escaped}
@@ -20,10 +20,26 @@ shown name = mark name ++ escaped name
 abbrev pub spaces : List ℕ
 spaces = 32 ∷ 32 ∷ []
 
--- a check line without its line feed: the mark, the digits in lower case, two spaces, the escaped name
+-- a plain line without its line feed: the mark, the digits in lower case, two spaces, the escaped name
 unfoldable pub plain_text : List ℕ → List ℕ → List ℕ
 plain_text digest name = mark name ++ encode_lower digest ++ spaces ++ escaped name
 
--- a check line
+-- a plain line
 abbrev pub plain : List ℕ → List ℕ → List ℕ
 plain digest name = plain_text digest name ++ 10 ∷ []
+
+-- what a tagged line begins with, behind its mark
+abbrev pub tag : List ℕ
+tag = codes "BLAKE3 ("
+
+-- what stands between the name and the digits of a tagged line
+abbrev pub closing : List ℕ
+closing = codes ") = "
+
+-- a tagged line without its line feed: the mark, `BLAKE3 (`, the escaped name, `) = `, the digits in lower case
+unfoldable pub tagged_text : List ℕ → List ℕ → List ℕ
+tagged_text digest name = mark name ++ tag ++ escaped name ++ closing ++ encode_lower digest
+
+-- a tagged line
+abbrev pub tagged : List ℕ → List ℕ → List ℕ
+tagged digest name = tagged_text digest name ++ 10 ∷ []

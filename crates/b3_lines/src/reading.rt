@@ -1,11 +1,11 @@
 //! Check lines read.
 
-ghost use Rattle.std.specs.Prelude.{◌≡◌, ◌+◌, ◌<◌, ◌≤◌, ◌↔◌, ◌&&◌, List, ℕ, All, map, Some, None, IsNone, IfSome, IsTrue, false, length, IfOk, IfErr, IsErrOf, MatchResult};
+ghost use Rattle.std.specs.Prelude.{◌≡◌, ◌+◌, ◌<◌, ◌≤◌, ◌↔◌, ◌&&◌, Bool, List, ℕ, All, map, Some, None, IsNone, IfSome, IsTrue, true, false, length, IfOk, IfErr, IsErrOf, MatchResult};
 ghost use Rattle.std.specs.String.{string_bytes};
 ghost use Rattle.b3_lines.specs.Lines.{AreLines, IsWithin, line_at, line_places, lines_of};
 ghost use Rattle.b3_lines.specs.Names.{has_bad_escape, unescaped};
-ghost use Rattle.b3_lines.specs.Parts.{AreParts, HasParts, shown_of};
-ghost use Rattle.b3_lines.specs.Reading.{HasOneOutcome, Reads, after_mark, first_refusal, has_mark, name_of, refusal_after_mark, without_return};
+ghost use Rattle.b3_lines.specs.Parts.{AreParts, HasParts, IsCut, shown_of};
+ghost use Rattle.b3_lines.specs.Reading.{HasOneForm, HasOneOutcome, IsReadAs, after_mark, first_refusal, has_mark, is_tagged, layout_of, name_of, plain_layout, refusal_after_mark, refusal_of, tagged_layout, without_return};
 
 use crate::fault::LineFault;
 use crate::names::{count_escapes, holds_bad_character, unescaped};
@@ -83,7 +83,7 @@ pub fn lines(text: &[u8]) -> Lines<'_>
     Lines::new(text)
 }
 
-/// Reads the bytes of one line, without its line feed.
+/// Reads the bytes of one line, plain or tagged, without its line feed.
 ///
 /// One carriage return at the very end is not part of the line. A line whose first byte is a
 /// backslash is marked, and the escapes of its name are taken back. The first refusal that holds
@@ -91,9 +91,9 @@ pub fn lines(text: &[u8]) -> Lines<'_>
 pub fn read_line(alloc: Global, line: &[u8]) -> Result<Line, LineFault>
     // What is answered is what the line says.
     ensures read { IfOk result (λ read.
-        Reads line.now read.digest (string_bytes read.name) (string_bytes read.shown)) }
+        IsReadAs line.now read.digest (string_bytes read.name) (string_bytes read.shown)) }
     // What the line says is answered, or there is no memory for it.
-    ensures only { (digest name shown : List ℕ) → Reads line.now digest name shown → MatchResult result
+    ensures only { (digest name shown : List ℕ) → IsReadAs line.now digest name shown → MatchResult result
         (λ read. (read.digest ≡ digest)
         × (string_bytes read.name ≡ name) × (string_bytes read.shown ≡ shown))
         (λ fault. fault ≡ LineFault.Memory) }
@@ -118,6 +118,9 @@ pub fn read_line(alloc: Global, line: &[u8]) -> Result<Line, LineFault>
 
     // A line is refused by one fault, or says one thing, and never both.
     ensures one_outcome { HasOneOutcome line.now }
+
+    // It is plain or tagged, and never both.
+    ensures one_form { HasOneForm line.now }
 {
     let parts = accepted(line)?;
     let name = parts.name(alloc)?;
@@ -166,12 +169,55 @@ fn after_mark(text: &str) -> (bool, &str)
     }
 }
 
+/// The digest of a line and its name as it stands, which may be empty.
+#[derive(Drop)]
+struct Cut<'a> {
+    digest: [u8; 32],
+    spelled: &'a str,
+}
+
 /// The parts of what follows the mark, or the first refusal that holds of it.
 fn parts_after_mark(marked: bool, rest: &str) -> Result<Parts<'_>, LineFault>
     ensures refused { IfErr result (λ fault. refusal_after_mark marked rest.now ≡ Some fault) }
     ensures mark { IfOk result (λ parts. parts.marked ≡ marked) }
     ensures taken { IfOk result (λ parts.
         AreParts marked rest.now parts.digest parts.spelled.now parts.escapes) }
+{
+    let cut = cut_up(rest)?;
+    let spelled = cut.spelled;
+    if spelled.is_empty() {
+        return Err(LineFault::NoName);
+    }
+    let Some(escapes) = escapes_of(marked, spelled.as_bytes()) else {
+        return Err(LineFault::BadEscape);
+    };
+    if holds_bad_character(spelled.as_bytes()) {
+        return Err(LineFault::BadCharacter);
+    }
+    Ok(Parts {
+        digest: cut.digest,
+        spelled,
+        marked,
+        escapes,
+    })
+}
+
+/// What follows the mark, cut up as it begins, or the first refusal of all but those of the name.
+fn cut_up(rest: &str) -> Result<Cut<'_>, LineFault>
+    ensures refused { IfErr result (λ fault. (marked : Bool) → refusal_of marked (layout_of rest.now) ≡ Some fault) }
+    ensures taken { IfOk result (λ cut. IsCut (layout_of rest.now) cut.digest cut.spelled.now) }
+{
+    if rest.as_bytes().starts_with(b"BLAKE3 (") {
+        cut_tagged(rest)
+    } else {
+        cut_plain(rest)
+    }
+}
+
+/// What follows the mark of a plain line, cut up.
+fn cut_plain(rest: &str) -> Result<Cut<'_>, LineFault>
+    ensures refused { IfErr result (λ fault. (marked : Bool) → refusal_of marked (plain_layout rest.now) ≡ Some fault) }
+    ensures taken { IfOk result (λ cut. IsCut (plain_layout rest.now) cut.digest cut.spelled.now) }
 {
     let bytes = rest.as_bytes();
     if bytes.len() < 66 {
@@ -184,21 +230,28 @@ fn parts_after_mark(marked: bool, rest: &str) -> Result<Parts<'_>, LineFault>
         return Err(LineFault::NoSpaces);
     }
     let spelled = &rest[66..];
-    if spelled.is_empty() {
-        return Err(LineFault::NoName);
+    Ok(Cut { digest, spelled })
+}
+
+/// What follows the mark of a tagged line, cut up from its end.
+fn cut_tagged(rest: &str) -> Result<Cut<'_>, LineFault>
+    requires { is_tagged rest.now ≡ true }
+    ensures refused { IfErr result (λ fault. (marked : Bool) → refusal_of marked (tagged_layout rest.now) ≡ Some fault) }
+    ensures taken { IfOk result (λ cut. IsCut (tagged_layout rest.now) cut.digest cut.spelled.now) }
+{
+    let bytes = rest.as_bytes();
+    if bytes.len() < 76 {
+        return Err(LineFault::Short);
     }
-    let Some(escapes) = escapes_of(marked, spelled.as_bytes()) else {
-        return Err(LineFault::BadEscape);
+    let start = bytes.len() - 64;
+    let Ok(digest) = <[u8; 32]>::from_hex(&bytes[start..]) else {
+        return Err(LineFault::NotDigits);
     };
-    if holds_bad_character(spelled.as_bytes()) {
-        return Err(LineFault::BadCharacter);
+    if &bytes[start - 4..start] != b") = ".as_slice() {
+        return Err(LineFault::NoSpaces);
     }
-    Ok(Parts {
-        digest,
-        spelled,
-        marked,
-        escapes,
-    })
+    let spelled = &rest[8..start - 4];
+    Ok(Cut { digest, spelled })
 }
 
 /// How many escapes the name of a line has: none where the line is not marked. `None` where a

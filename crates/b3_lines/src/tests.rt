@@ -79,6 +79,12 @@ fn refused_memory_is_answered(rt: HostRuntime) -> Result<(), Fail> {
     let want = b"\\af1349b9f5f9a1a6a0404dea36dcc9499bcb25c9adc112b7cc9a93cae41f3262  a\\\\b\\nc\n";
     let written = answered!(write_line(alloc, &digest, "a\\b\nc"))?;
     assert_eq!(rt; written.as_slice(), want.as_slice());
+    let tagged = answered!(write_tagged(alloc, &digest, "a\\b\nc"))?;
+    let want_tagged =
+        b"\\BLAKE3 (a\\\\b\\nc) = af1349b9f5f9a1a6a0404dea36dcc9499bcb25c9adc112b7cc9a93cae41f3262\n";
+    assert_eq!(rt; tagged.as_slice(), want_tagged.as_slice());
+    let line = answered!(read_line(alloc, &want_tagged[..84]))?;
+    assert_eq!(rt; line.name.as_str(), "a\\b\nc");
     let shown = answered!(shown_name(alloc, "a\\b\nc"))?;
     assert_eq!(rt; shown.as_str(), "\\a\\\\b\\nc");
     let line = answered!(read_line(alloc, &want[..74]))?;
@@ -111,6 +117,149 @@ fn lines_as_they_are_written(rt: HostRuntime) -> Result<(), Fail> {
     for name in ["a\u{FFFD}", "\0", "\\\n\0"] {
         let fault = write_line(alloc, &digest, name).err();
         assert_eq!(rt; fault, Some(LineFault::BadCharacter), "at {name:?}");
+    }
+    Ok(())
+}
+
+#[test]
+fn tagged_lines_as_they_are_written(rt: HostRuntime) -> Result<(), Fail> {
+    let alloc = rt.alloc();
+    let digest = digest(&rt);
+    let rows: [(&str, &[u8], &[u8], usize); 4] = [
+        ("-", b"BLAKE3 (-) = ", b"\n", 78),
+        ("a\\b", b"\\BLAKE3 (a\\\\b) = ", b"\n", 82),
+        ("a) = b", b"BLAKE3 (a) = b) = ", b"\n", 83),
+        ("x\r\n", b"\\BLAKE3 (x\\r\\n) = ", b"\n", 83),
+    ];
+    for (name, before, after, len) in rows {
+        let written = write_tagged(alloc, &digest, name)?;
+        let want = line_of(alloc, before, after)?;
+        assert_eq!(rt; written.as_slice(), want.as_slice());
+        assert_eq!(rt; written.len(), len);
+        assert_eq!(rt; written.capacity(), len, "one growth, of the exact length");
+        let line = read_line(alloc, &written[..len - 1])?;
+        assert!(rt; line.digest == digest);
+        assert_eq!(rt; line.name.as_str(), name);
+        assert_eq!(rt; line.shown.as_str(), shown_name(alloc, name)?.as_str());
+    }
+    let no_digits = write_tagged(alloc, &[], "x")?;
+    assert_eq!(rt; no_digits.as_slice(), b"BLAKE3 (x) = \n".as_slice());
+    assert_eq!(rt;
+        write_tagged(alloc, &digest, "").err(),
+        Some(LineFault::NoName)
+    );
+    for name in ["a\u{FFFD}", "\0", "\\\n\0"] {
+        let fault = write_tagged(alloc, &digest, name).err();
+        assert_eq!(rt; fault, Some(LineFault::BadCharacter), "at {name:?}");
+    }
+    Ok(())
+}
+
+#[test]
+fn tagged_lines_that_are_refused(rt: HostRuntime) -> Result<(), Fail> {
+    let alloc = rt.alloc();
+    let digits = DIGITS.as_bytes();
+    let rows: [(&[u8], &[u8], LineFault); 17] = [
+        (b"BLAKE3 (", b"", LineFault::Short),
+        (b"BLAKE3 (", &digits[..63], LineFault::Short),
+        (b"BLAKE3 (", &digits[..], LineFault::Short),
+        (b"BLAKE3 () =", digits, LineFault::Short),
+        (b"\\BLAKE3 () =", digits, LineFault::Short),
+        (b"BLAKE3 () = ", digits, LineFault::NoName),
+        (b"\\BLAKE3 () = ", digits, LineFault::NoName),
+        (b"BLAKE3 (x) = ", &digits[..63], LineFault::NotDigits),
+        (b"BLAKE3 (x] = ", digits, LineFault::NoSpaces),
+        (b"BLAKE3 (x)= ", digits, LineFault::NoSpaces),
+        (b"BLAKE3 (x) =", digits, LineFault::NoSpaces),
+        (b"BLAKE3 (x) =  ", digits, LineFault::NoSpaces),
+        (b"\\BLAKE3 (a\\qb) = ", digits, LineFault::BadEscape),
+        (b"\\BLAKE3 (a\\) = ", digits, LineFault::BadEscape),
+        (b"\\BLAKE3 (\0\\q) = ", digits, LineFault::BadEscape),
+        (b"BLAKE3 (x\0) = ", digits, LineFault::BadCharacter),
+        (
+            b"BLAKE3 (x\xEF\xBF\xBD) = ",
+            digits,
+            LineFault::BadCharacter,
+        ),
+    ];
+    for (before, after, want) in rows {
+        let mut line = Vec::from_slice(alloc, before)?;
+        line.extend_from_slice(after)?;
+        assert_eq!(rt; read_line(alloc, &line).err(), Some(want), "at {line:?}");
+    }
+    Ok(())
+}
+
+#[test]
+fn other_tags_and_bytes_behind_the_digits_are_no_digits(rt: HostRuntime) -> Result<(), Fail> {
+    let alloc = rt.alloc();
+    let rows: [(&[u8], &[u8]); 6] = [
+        (b"blake3 (x) = ", b""),
+        (b"BLAKE3(x) = ", b""),
+        (b" BLAKE3 (x) = ", b""),
+        (b"BLAKE2 (x) = ", b""),
+        (b"BLAKE3 (x) = ", b" "),
+        (b"BLAKE3 (x) = ", b"g"),
+    ];
+    for (before, after) in rows {
+        let line = line_of(alloc, before, after)?;
+        assert_eq!(rt;
+            read_line(alloc, &line).err(),
+            Some(LineFault::NotDigits),
+            "at {line:?}"
+        );
+    }
+    Ok(())
+}
+
+#[test]
+fn tagged_lines_that_are_taken(rt: HostRuntime) -> Result<(), Fail> {
+    let alloc = rt.alloc();
+    let digest = digest(&rt);
+    let rows: [(&[u8], &[u8], &str, &str); 8] = [
+        (b"BLAKE3 (-) = ", b"", "-", "-"),
+        (b"BLAKE3 (-) = ", b"\r", "-", "-"),
+        (b"BLAKE3 ()) = ", b"", ")", ")"),
+        (b"BLAKE3 ( ) = ", b"", " ", " "),
+        (b"BLAKE3 (a) = b) = ", b"", "a) = b", "a) = b"),
+        (b"BLAKE3 (a\\nb) = ", b"", "a\\nb", "a\\nb"),
+        (b"\\BLAKE3 (ab) = ", b"", "ab", "\\ab"),
+        (
+            b"\\BLAKE3 (\xC3\xA9\\\\\\r\xE2\x82\xAC) = ",
+            b"",
+            "\u{E9}\\\r\u{20AC}",
+            "\\\u{E9}\\\\\\r\u{20AC}",
+        ),
+    ];
+    for (before, after, name, shown) in rows {
+        let read = read_line(alloc, &line_of(alloc, before, after)?)?;
+        assert!(rt; read.digest == digest);
+        assert_eq!(rt; read.name.as_str(), name);
+        assert_eq!(rt; read.shown.as_str(), shown);
+    }
+    let upper =
+        b"BLAKE3 (x) = AF1349B9F5F9A1A6A0404DEA36DCC9499BCB25C9ADC112B7CC9A93CAE41F3262".as_slice();
+    assert!(rt; read_line(alloc, upper)?.digest == digest);
+    Ok(())
+}
+
+/// A name that holds a tagged line of another digest, and one that is read only from its end.
+#[test]
+fn names_that_hold_lines(rt: HostRuntime) -> Result<(), Fail> {
+    let alloc = rt.alloc();
+    let digest = digest(&rt);
+    let other = [0x11; 32];
+    for before in ["BLAKE3 (a) = ", "a) = ", "", "a  "] {
+        let mut name = String::from_str(alloc, before)?;
+        name.push_str(DIGITS)?;
+        let tagged = write_tagged(alloc, &other, name.as_str())?;
+        let line = read_line(alloc, &tagged[..tagged.len() - 1])?;
+        assert!(rt; line.digest == other);
+        assert_eq!(rt; line.name.as_str(), name.as_str());
+        let plain = write_line(alloc, &digest, name.as_str())?;
+        let line = read_line(alloc, &plain[..plain.len() - 1])?;
+        assert!(rt; line.digest == digest);
+        assert_eq!(rt; line.name.as_str(), name.as_str());
     }
     Ok(())
 }

@@ -1,17 +1,20 @@
-//! Check lines written.
+//! Plain lines written, and what is shown of a name.
 
 ghost use Rattle.std.specs.Prelude.{◌≡◌, ◌↔◌, ◌⊎◌, ◌+◌, ◌*◌, ◌^◌, ◌<◌, ◌==◌, ◌++◌, ◌∷◌, [], List, ℕ, length, IsTrue, if◌then◌else◌, OnOk, IfOk, IfErr, IsErrOf};
 ghost use Rattle.std.specs.String.{string_bytes};
 ghost use Rattle.hex.specs.Hex.{encode_lower};
 ghost use Rattle.b3_lines.specs.Names.{holds_bad_character};
 ghost use Rattle.b3_lines.specs.Reading.{Reads};
-ghost use Rattle.b3_lines.specs.Writing.{plain, shown};
+ghost use Rattle.b3_lines.specs.Writing.{mark, plain, shown};
 
 use crate::fault::LineFault;
 use crate::names::{count_escaped, holds_bad_character, push_escaped};
 use std::alloc::{AllocError, Global};
 
-/// The check line of a digest and a name, with its line feed.
+/// How many bytes a plain line has beside its mark, its digits and its name.
+const PLAIN_LEN: usize = 3;
+
+/// The plain line of a digest and a name, with its line feed.
 ///
 /// Refused as `NoName` where the name is empty, as `BadCharacter` where it holds NUL or U+FFFD,
 /// and as `Memory` where there is no room for the line.
@@ -29,6 +32,29 @@ pub fn write_line(alloc: Global, digest: &[u8], name: &str) -> Result<Vec<u8>, L
         × (line.items ≡ written ++ 10 ∷ [])
         × Reads written digest.now name.now (shown name.now)) }
 {
+    let mut line = begin_line(alloc, digest, name, PLAIN_LEN)?;
+    push_digits(&mut line, digest)?;
+    line.extend_from_slice(b"  ")?;
+    push_escaped(&mut line, name.as_bytes())?;
+    line.push(b'\n')?;
+    Ok(line)
+}
+
+/// The mark of a name that a line can hold, with room for its whole line: for the mark, the digits, the
+/// name and `around` bytes beside them. Refused as `write_line` refuses.
+pub(crate) fn begin_line(
+    alloc: Global,
+    digest: &[u8],
+    name: &str,
+    around: usize,
+) -> Result<Vec<u8>, LineFault>
+    ensures begun { IfOk result (λ line. line.items ≡ mark name.now) }
+    ensures no_name { IsErrOf result LineFault.NoName ↔ (name.now ≡ []) }
+    ensures bad_character { IsErrOf result LineFault.BadCharacter ↔
+        IsTrue (holds_bad_character name.now) }
+    ensures no_other { IfErr result (λ fault. (fault ≡ LineFault.NoName)
+        ⊎ (fault ≡ LineFault.BadCharacter) ⊎ (fault ≡ LineFault.Memory)) }
+{
     if name.is_empty() {
         return Err(LineFault::NoName);
     }
@@ -37,12 +63,8 @@ pub fn write_line(alloc: Global, digest: &[u8], name: &str) -> Result<Vec<u8>, L
         return Err(LineFault::BadCharacter);
     }
     let escapes = count_escaped(name);
-    let mut line = Vec::with_capacity(alloc, line_length(digest, name, escapes))?;
+    let mut line = Vec::with_capacity(alloc, line_length(digest, name, escapes, around))?;
     push_mark(&mut line, escapes != 0)?;
-    push_digits(&mut line, digest)?;
-    line.extend_from_slice(b"  ")?;
-    push_escaped(&mut line, name)?;
-    line.push(b'\n')?;
     Ok(line)
 }
 
@@ -56,20 +78,24 @@ fn push_mark(line: &mut Vec<u8>, marked: bool) -> Result<(), AllocError>
     Ok(())
 }
 
-/// The length of a line, for the number of characters that are escaped in its name.
-fn line_length(digest: &[u8], name: &[u8], escapes: usize) -> usize
-    ensures { let marks = if escapes == 0 then 3 else 4 in
-        let whole = 2 * length digest.now + length name.now + escapes + marks in
+/// The length of a line, for the number of characters that are escaped in its name and the number of
+/// bytes beside its mark, its digits and its name.
+fn line_length(digest: &[u8], name: &[u8], escapes: usize, around: usize) -> usize
+    ensures { let mark = if escapes == 0 then 0 else 1 in
+        let whole = 2 * length digest.now + length name.now + escapes + mark + around in
         whole < 2 ^ 64 → result ≡ whole }
 {
     let mark = usize::from(escapes != 0);
     let digits = digest.len().saturating_mul(2);
     let name = name.len().saturating_add(escapes);
-    digits.saturating_add(name).saturating_add(mark + 3)
+    digits
+        .saturating_add(name)
+        .saturating_add(mark)
+        .saturating_add(around)
 }
 
 /// Appends the digits of a digest, in lower case.
-fn push_digits(line: &mut Vec<u8>, digest: &[u8]) -> Result<(), AllocError>
+pub(crate) fn push_digits(line: &mut Vec<u8>, digest: &[u8]) -> Result<(), AllocError>
     ensures { OnOk result (line.new.items ≡ line.old.items ++ encode_lower digest.now) }
 {
     let mut digits = [0u8; 64];

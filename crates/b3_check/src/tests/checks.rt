@@ -124,6 +124,50 @@ fn lists_of_one_line_or_none(rt: HostRuntime) -> Result<(), Fail> {
     Ok(())
 }
 
+// Plain and tagged lines in one list.
+#[test]
+fn lines_of_both_forms(rt: HostRuntime) -> Result<(), Fail> {
+    let list = joined(
+        rt.alloc(),
+        &[
+            "BLAKE3 (e) = ",
+            EMPTY,
+            "\r\n",
+            EMPTY,
+            "  e\n\\BLAKE3 (a\\\\b) = ",
+            EMPTY,
+            "\n\\BLAKE3 (a\\\\b) = ",
+            ONE_BYTE,
+            "\nBLAKE3 (x) = ",
+            ONE_BYTE,
+            "\nBLAKE3 (z) = ",
+            ONE_BYTE,
+            "\nBLAKE3 (x] = ",
+            ONE_BYTE,
+            "\nBLAKE3 (\n",
+        ],
+    )?;
+    let mut shelf = MemoryShelf::new(rt.alloc());
+    let mut out = MemorySink::new(rt.alloc());
+    let mut err = MemorySink::new(rt.alloc());
+    shelf.put("l", list.as_bytes())?;
+    shelf.put("a\\b", b"")?;
+    shelf.put("e", b"")?;
+    shelf.put("x", b"\0")?;
+    let asked = check_options(false, 1_000);
+    let answer = check_one(rt.alloc(), &mut shelf, "l", &mut out, &mut err, &asked);
+    assert_eq!(rt; answer, Ok(tally(4, 4, 0)));
+    let written = "e: OK\ne: OK\n\\a\\\\b: OK\n\\a\\\\b: FAILED\nx: OK\nz: FAILED (cannot read)\n";
+    assert_eq!(rt; out.bytes(), written.as_bytes());
+    let complaints = [
+        "b3sum: line 7: missing spaces\n",
+        "b3sum: line 8: short line\n",
+        "b3sum: WARNING: 4 computed checksums did NOT match\n",
+    ];
+    assert_eq!(rt; err.bytes(), joined(rt.alloc(), &complaints)?.as_bytes());
+    Ok(())
+}
+
 // Line numbers begin anew in each list; a list that cannot be read is not among the failed lines, and
 // the warning comes after the last list.
 #[test]

@@ -63,26 +63,49 @@ fn a_name_that_is_not_there_does_not_end_the_run(rt: HostRuntime) -> Result<(), 
 
 #[test]
 fn names_that_no_line_can_show(rt: HostRuntime) -> Result<(), Fail> {
-    for (name, complaint) in [
-        ("", "b3sum: : bad name\n"),
-        ("a\0", "b3sum: a\0: bad name\n"),
-        ("\u{FFFD}\n", "b3sum: \\\u{FFFD}\\n: bad name\n"),
+    for (form, name, complaint) in [
+        (Form::Named, "", "b3sum: : bad name\n"),
+        (Form::Named, "a\0", "b3sum: a\0: bad name\n"),
+        (
+            Form::Named,
+            "\u{FFFD}\n",
+            "b3sum: \\\u{FFFD}\\n: bad name\n",
+        ),
+        (Form::Tagged, "", "b3sum: : bad name\n"),
+        (Form::Tagged, "\n\0", "b3sum: \\\\n\0: bad name\n"),
     ] {
         let mut shelf = MemoryShelf::new(rt.alloc());
         let mut out = MemorySink::new(rt.alloc());
         let mut err = MemorySink::new(rt.alloc());
         shelf.put(name, b"")?;
-        let answer = sum_one(
-            rt.alloc(),
-            &mut shelf,
-            name,
-            &mut out,
-            &mut err,
-            &options(1, 0),
-        );
+        let mut asked = options(1, 0);
+        asked.form = form;
+        let answer = sum_one(rt.alloc(), &mut shelf, name, &mut out, &mut err, &asked);
         assert_eq!(rt; answer, Ok(tally(0, 1, 0)));
         assert!(rt; out.bytes().is_empty());
         assert_eq!(rt; err.bytes(), complaint.as_bytes());
+    }
+    Ok(())
+}
+
+#[test]
+fn tagged_lines(rt: HostRuntime) -> Result<(), Fail> {
+    for (name, before) in [
+        ("-", "BLAKE3 (-) = "),
+        ("a) = b", "BLAKE3 (a) = b) = "),
+        ("a\\b", "\\BLAKE3 (a\\\\b) = "),
+    ] {
+        let mut shelf = MemoryShelf::new(rt.alloc());
+        let mut out = MemorySink::new(rt.alloc());
+        let mut err = MemorySink::new(rt.alloc());
+        shelf.put(name, b"")?;
+        let mut asked = options(1, 0);
+        asked.form = Form::Tagged;
+        let answer = sum_one(rt.alloc(), &mut shelf, name, &mut out, &mut err, &asked);
+        assert_eq!(rt; answer, Ok(tally(1, 0, 0)));
+        let line = joined(rt.alloc(), &[before, EMPTY, "\n"])?;
+        assert_eq!(rt; out.bytes(), line.as_bytes());
+        assert!(rt; err.bytes().is_empty());
     }
     Ok(())
 }
