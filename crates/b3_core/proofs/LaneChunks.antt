@@ -1,6 +1,6 @@
 -- Chunks on lanes: blocks that are loaded by rows of four words, and the compressions of a full chunk.
 use Rattle.std.proofs.Common.{◌≡◌, ℕ, ◌+◌, ◌*◌, ◌/◌, ◌<◌, ◌≤◌, List, [], ◌∷◌, ◌++◌, length, map, get_or, take, drop}
-use Rattle.std.proofs.Common.{refl, sym, ap, ◌∙◌, arith, w32, add-zero, bit_or, ◌-◌}
+use Rattle.std.proofs.Common.{refl, sym, ap, ◌∙◌, arith, w32, bit_or, ◌-◌}
 use Rattle.std.specs.Int.{from_le_bytes}
 use Rattle.std.specs.List.{range_with_len}
 use Rattle.std.specs.Simd.Lanes.{pick_l}
@@ -60,16 +60,6 @@ words_of-block bytes start fits =
     let long : length (take 64 (drop start bytes)) ≡ 64 =
     length-take-le 64 (drop start bytes) (omega (arith, length-drop start bytes)) in
     ap (λ n. map (word_at (take 64 (drop start bytes))) (range_with_len 0 (n / 4))) long
-
--- eight counters from `first` on
-abbrev pub counted : ℕ → List ℕ
-counted first =
-    first ∷ (first + 1) ∷ (first + 2) ∷ (first + 3) ∷ (first + 4) ∷ (first + 5) ∷ (first + 6) ∷ (first + 7) ∷ []
-
-pub counted-at : (f : ℕ → ℕ) (first j : ℕ) → j < 8 → get_or (map f (counted first)) j 0 ≡ f (first + j)
-counted-at f first =
-    below_eight (λ j. get_or (map f (counted first)) j 0 ≡ f (first + j))
-    (ap f (sym (add-zero first))) refl refl refl refl refl refl refl
 
 -- a block of a chunk
 pub block-of_chunk : (bytes : List ℕ) (place j k : ℕ) → k < 16 → place ≡ 1024 * j + 64 * k

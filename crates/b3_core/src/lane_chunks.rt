@@ -8,9 +8,10 @@ ghost use Rattle.b3_core.specs.Chunks.{chunk_at, chunk_node};
 ghost use Rattle.b3_core.specs.Nodes.{chaining};
 ghost use Rattle.b3_core.specs.Lanes.{AreWide, chunk_chaining, lane, word_from};
 
-use crate::lanes::{all_listed, chainings8, counters};
+use crate::lanes::{all_listed, chainings8, counters_from};
 use crate::leaves::{BLOCK_LEN, CHUNK_END, CHUNK_LEN, block_flags};
 use crate::modes::Mode;
+use crate::spread::spread;
 use std::simd::prelude::*;
 
 const LAST_BLOCK: usize = 15;
@@ -78,24 +79,6 @@ fn load8(bytes: &[u8], places: &[usize; 8], at: usize) -> [u32x8; 16]
     ]
 }
 
-// Eight words, each in all lanes.
-#[inline(always)]
-pub(crate) fn spread(words: &[u32; 8]) -> [u32x8; 8]
-    ensures wide { AreWide 8 result }
-    ensures lanes { (j : ℕ) → j < 8 → lane j result ≡ words.now }
-{
-    [
-        u32x8::splat(words[0]),
-        u32x8::splat(words[1]),
-        u32x8::splat(words[2]),
-        u32x8::splat(words[3]),
-        u32x8::splat(words[4]),
-        u32x8::splat(words[5]),
-        u32x8::splat(words[6]),
-        u32x8::splat(words[7]),
-    ]
-}
-
 // Where each lane's chunk begins, of `n` chunks: an idle lane takes the last chunk once more.
 #[inline(always)]
 fn places_of(n: usize) -> [usize; 8]
@@ -129,16 +112,7 @@ fn chain_lanes(mode: &Mode, first: u64, bytes: &[u8], n: usize) -> [u32x8; 8]
         → lane j result ≡ chunk_chaining mode.now first bytes.now j }
 {
     let places = places_of(n);
-    let (low, high) = counters(&[
-        first,
-        first + 1,
-        first + 2,
-        first + 3,
-        first + 4,
-        first + 5,
-        first + 6,
-        first + 7,
-    ]);
+    let (low, high) = counters_from(first);
     let mut h = spread(&mode.key);
     'inner: for k in 0..LAST_BLOCK {
         let m = load8(bytes, &places, BLOCK_LEN * k);

@@ -1,7 +1,7 @@
 // The compression function (BLAKE3 (2020), 2.2) on eight lanes at once: a vector holds one word of eight
 // compressions. Each contract says of a lane what the definition says of one compression.
 
-ghost use Rattle.std.specs.Prelude.{◌≡◌, ℕ, List, [], ◌++◌, ◌+◌, ◌*◌, ◌/◌, ◌%◌, ◌^◌, ◌<◌, length, map, take, drop};
+ghost use Rattle.std.specs.Prelude.{◌≡◌, ℕ, List, [], ◌++◌, ◌+◌, ◌*◌, ◌/◌, ◌%◌, ◌^◌, ◌<◌, ◌≤◌, length, map, take, drop};
 ghost use Rattle.std.specs.Prelude.{slice_index, slice_index_or};
 ghost use Rattle.std.specs.Int.{w32, rotate_right};
 ghost use Rattle.b3_core.specs.Compression.{compress, half_g, output, permuted, round, rounds, start};
@@ -147,7 +147,7 @@ fn start8(h: &[u32x8; 8], low: u32x8, high: u32x8, b: u32, d: u32) -> [u32x8; 16
 
 // The first eight output words, which do not read the chaining values.
 #[inline(always)]
-fn front8(v: &[u32x8; 16]) -> [u32x8; 8]
+pub(crate) fn front8(v: &[u32x8; 16]) -> [u32x8; 8]
     requires wide { AreWide 16 v.now }
     ensures wide { AreWide 8 result }
     ensures lanes { (j : ℕ) (h : List ℕ) → j < 8 → lane j result ≡ take 8 (output (lane j v.now) h) }
@@ -166,7 +166,7 @@ fn front8(v: &[u32x8; 16]) -> [u32x8; 8]
 
 // The last eight output words.
 #[inline(always)]
-fn back8(v: &[u32x8; 16], h: &[u32x8; 8]) -> [u32x8; 8]
+pub(crate) fn back8(v: &[u32x8; 16], h: &[u32x8; 8]) -> [u32x8; 8]
     requires wide { AreWide 16 v.now }
     requires h { AreWide 8 h.now }
     ensures wide { AreWide 8 result }
@@ -332,7 +332,7 @@ pub(crate) fn all_listed(v: &[u32x8; 8]) -> [[u32; 8]; 8]
 
 // What lane `j` holds of one list of vectors, and then of another.
 #[inline(always)]
-fn both_listed(front: &[u32x8; 8], back: &[u32x8; 8], j: usize) -> [u32; 16]
+pub(crate) fn both_listed(front: &[u32x8; 8], back: &[u32x8; 8], j: usize) -> [u32; 16]
     requires in_range { j < 8 }
     requires front { AreWide 8 front.now }
     requires back { AreWide 8 back.now }
@@ -387,6 +387,51 @@ pub(crate) fn counters(t: &[u64; 8]) -> (u32x8, u32x8)
     (u32x8::from_array(low), u32x8::from_array(high))
 }
 
+// The low and the high words of eight counters that follow one another.
+#[inline(always)]
+pub(crate) fn counters_from(first: u64) -> (u32x8, u32x8)
+    requires { first + 8 ≤ 2 ^ 64 }
+    ensures low_wide { length result.0 ≡ 8 }
+    ensures high_wide { length result.1 ≡ 8 }
+    ensures low { (j : ℕ) → j < 8 → slice_index result.0 j ≡ (first + j) % 2 ^ 32 }
+    ensures high { (j : ℕ) → j < 8 → slice_index result.1 j ≡ (first + j) / 2 ^ 32 }
+{
+    counters(&[
+        first,
+        first + 1,
+        first + 2,
+        first + 3,
+        first + 4,
+        first + 5,
+        first + 6,
+        first + 7,
+    ])
+}
+
+// The state after seven rounds of eight compressions, of the chaining values `h`, the messages `m`, the low
+// and high words of the counters, one block length `b` and one set of flags `d`. What needs all sixteen
+// output words shares it, as chunks and parents share `chainings8`.
+#[inline(never)]
+pub(crate) fn states8(
+    h: &[u32x8; 8],
+    m: &[u32x8; 16],
+    low: u32x8,
+    high: u32x8,
+    b: u32,
+    d: u32,
+) -> [u32x8; 16]
+    requires h { AreWide 8 h.now }
+    requires message { AreWide 16 m.now }
+    requires low { length low ≡ 8 }
+    requires high { length high ≡ 8 }
+    ensures wide { AreWide 16 result }
+    ensures lanes { (j t : ℕ) → j < 8 → slice_index low j ≡ t % 2 ^ 32 → slice_index high j ≡ t / 2 ^ 32
+        → lane j result ≡ rounds 7 (start (lane j h.now) t b d) (lane j m.now) }
+{
+    let v = start8(h, low, high, b, d);
+    rounds8(v, m)
+}
+
 /// Eight compressions at once (BLAKE3 (2020), 2.2): list `j` of the result has the output words for the
 /// chaining value `h[j]`, the message `m[j]` and the counter `t[j]`, with one block length `b` and one
 /// set of flags `d` for all.
@@ -403,8 +448,7 @@ pub fn compress8(
     let chains = gathered8(h);
     let message = gathered16(m);
     let (low, high) = counters(t);
-    let v = start8(&chains, low, high, b, d);
-    let v = rounds8(v, &message);
+    let v = states8(&chains, &message, low, high, b, d);
     let front = front8(&v);
     let back = back8(&v, &chains);
     [

@@ -1,9 +1,9 @@
-use Rattle.std.proofs.Common.{◌≡◌, ℕ, ◌+◌, ◌*◌, ◌/◌, ◌%◌, ◌^◌, ◌<◌, take, get_or, ap, ◌∙◌, arith}
+use Rattle.std.proofs.Common.{◌≡◌, ℕ, ◌+◌, ◌*◌, ◌<◌, take, get_or, ap, ◌∙◌, arith}
 use Rattle.b3_core.specs.Words.{words_of}
 use Rattle.b3_core.specs.Compression.{compress}
 use Rattle.b3_core.specs.Chunks.{carried, chunk_at}
 use Rattle.b3_core.specs.Lanes.{lane}
-use Rattle.b3_core.proofs.LaneChunks.{block-of_chunk, carried-full, chaining-full, counted-at, length-chunk_at}
+use Rattle.b3_core.proofs.LaneChunks.{block-of_chunk, carried-full, chaining-full, length-chunk_at}
 use Rattle.b3_core.proofs.lane_chunks.chain_lanes.Goals as goal
 
 pub inner-init : goal.inner-init
@@ -18,10 +18,8 @@ inner-preserved c = (
       let number : ℕ = c.args.first + j in
       let k : ℕ = c.inner.k in
       let lt : j < 8 = omega (arith, c.requires.room) in
-      let low : get_or c.counters.result.0 j 0 ≡ number % 2 ^ 32 =
-      ap (λ l. get_or l j 0) c.counters.ensures.low ∙ counted-at (λ n. n % 2 ^ 32) c.args.first j lt in
-      let high : get_or c.counters.result.1 j 0 ≡ number / 2 ^ 32 =
-      ap (λ l. get_or l j 0) c.counters.ensures.high ∙ counted-at (λ n. n / 2 ^ 32) c.args.first j lt in
+      let low = c.counters_from.ensures.low j lt in
+      let high = c.counters_from.ensures.high j lt in
       let place : get_or c.places_of-places.result j 0 + 64 * k ≡ 1024 * j + 64 * k =
       ap (λ p. p + 64 * k) (c.places_of-places.ensures.lanes j j_in) in
       let words = c.load8-m.ensures.lanes j lt ∙ ap words_of (block-of_chunk bytes _ j k (omega arith) place) in
@@ -36,10 +34,8 @@ returns-clause-lanes c j j_in =
     let bytes = c.args.bytes.now in
     let number : ℕ = c.args.first + j in
     let lt : j < 8 = omega (arith, c.requires.room) in
-    let low : get_or c.counters.result.0 j 0 ≡ number % 2 ^ 32 =
-    ap (λ l. get_or l j 0) c.counters.ensures.low ∙ counted-at (λ n. n % 2 ^ 32) c.args.first j lt in
-    let high : get_or c.counters.result.1 j 0 ≡ number / 2 ^ 32 =
-    ap (λ l. get_or l j 0) c.counters.ensures.high ∙ counted-at (λ n. n / 2 ^ 32) c.args.first j lt in
+    let low = c.counters_from.ensures.low j lt in
+    let high = c.counters_from.ensures.high j lt in
     let place : get_or c.places_of-places.result j 0 + 64 * 15 ≡ 1024 * j + 64 * 15 =
     ap (λ p. p + 64 * 15) (c.places_of-places.ensures.lanes j j_in) in
     let words = c.load8-last.ensures.lanes j lt ∙ ap words_of (block-of_chunk bytes _ j 15 (omega arith) place) in

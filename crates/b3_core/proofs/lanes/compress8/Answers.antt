@@ -1,6 +1,6 @@
 use Rattle.std.proofs.Common.{◌≡◌, ℕ, ◌%◌, ◌/◌, ◌^◌, List, [], ◌∷◌, ◌++◌, get_or, ap, ◌∙◌}
 use Rattle.std.proofs.Math.ListN.{get_or-map as get_or-of_map}
-use Rattle.b3_core.specs.Compression.{compress, output, rounds, start}
+use Rattle.b3_core.specs.Compression.{compress, output}
 use Rattle.b3_core.specs.Lanes.{lane}
 use Rattle.b3_core.proofs.Lists.{below_eight}
 use Rattle.b3_core.proofs.lanes.compress8.Goals as goal
@@ -8,13 +8,13 @@ use Rattle.b3_core.proofs.lanes.compress8.Goals as goal
 pub returns : goal.returns
 unfolding compress
 returns c =
-    let h = c.args.h.now in
-    let m = c.args.m.now in
     let t = c.args.t.now in
+    let front = c.front8-front.result in
+    let back = c.back8-back.result in
     let lists : List (List ℕ) =
     c.both_listed.result ∷ c.both_listed-2.result ∷ c.both_listed-3.result ∷ c.both_listed-4.result
     ∷ c.both_listed-5.result ∷ c.both_listed-6.result ∷ c.both_listed-7.result ∷ c.both_listed-8.result ∷ [] in
-    let each = below_eight (λ j. get_or lists j [] ≡ lane j c.front8-front.result ++ lane j c.back8-back.result)
+    let each = below_eight (λ j. get_or lists j [] ≡ lane j front ++ lane j back)
     c.both_listed.ensures c.both_listed-2.ensures c.both_listed-3.ensures c.both_listed-4.ensures
     c.both_listed-5.ensures c.both_listed-6.ensures c.both_listed-7.ensures c.both_listed-8.ensures in
     λ j lt.
@@ -25,8 +25,8 @@ returns c =
     ap (λ l. get_or l j 0) c.counters.ensures.high ∙ get_or-of_map (λ n. n / 2 ^ 32) t j 0 in
     let chains = c.gathered8-chains.ensures.lanes j lt in
     let message = c.gathered16-message.ensures.lanes j lt in
-    let started = c.start8-v.ensures.lanes j t_j lt low high ∙ (λ i. start (chains i) t_j c.args.b c.args.d) in
-    let state = c.rounds8-v.ensures.lanes j lt ∙ (λ i. rounds 7 (started i) (message i)) in
+    let state = c.states8-v.ensures.lanes j t_j lt low high in
     each j lt
     ∙ (λ i. c.front8-front.ensures.lanes j (lane j c.gathered8-chains.result) lt i ++ c.back8-back.ensures.lanes j lt i)
-    ∙ (λ i. output (state i) (chains i))
+    ∙ (λ i. output (state i) (lane j c.gathered8-chains.result))
+    ∙ (λ i. compress (chains i) (message i) t_j c.args.b c.args.d)
