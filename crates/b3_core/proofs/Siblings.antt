@@ -226,7 +226,8 @@ IsSubtree-had n a c some h =
                                 k,
                                 refl,
                               ) covers (omega arith) more ends starts (inr last)
-                              | inr before ↦ absurd (not_there h (λ s. elim ((tests s).3) [ inl e ↦ part e | inr e ↦ before e ]))
+                              | inr before ↦
+                                  absurd (not_there h (λ s. elim ((tests s).3) [ inl e ↦ part e | inr e ↦ before e ]))
                             ]
                       ]
                 ]

@@ -330,31 +330,54 @@ pub(crate) fn all_listed(v: &[u32x8; 8]) -> [[u32; 8]; 8]
     ]
 }
 
-// What lane `j` holds of one list of vectors, and then of another.
+// Rows turned into columns: vector `j` of the result has what lane `j` holds. No word leaves its half of
+// a vector before the last step.
 #[inline(always)]
-pub(crate) fn both_listed(front: &[u32x8; 8], back: &[u32x8; 8], j: usize) -> [u32; 16]
-    requires in_range { j < 8 }
-    requires front { AreWide 8 front.now }
-    requires back { AreWide 8 back.now }
-    ensures { result ≡ lane j front.now ++ lane j back.now }
+pub(crate) fn turned8(v: &[u32x8; 8]) -> [u32x8; 8]
+    requires { AreWide 8 v.now }
+    ensures wide { AreWide 8 result }
+    ensures lanes { (j : ℕ) → j < 8 → slice_index_or result j [] ≡ lane j v.now }
 {
+    let a0 = v[0].shuffle::<8>(v[1], [0, 8, 1, 9, 4, 12, 5, 13]);
+    let a1 = v[0].shuffle::<8>(v[1], [2, 10, 3, 11, 6, 14, 7, 15]);
+    let a2 = v[2].shuffle::<8>(v[3], [0, 8, 1, 9, 4, 12, 5, 13]);
+    let a3 = v[2].shuffle::<8>(v[3], [2, 10, 3, 11, 6, 14, 7, 15]);
+    let a4 = v[4].shuffle::<8>(v[5], [0, 8, 1, 9, 4, 12, 5, 13]);
+    let a5 = v[4].shuffle::<8>(v[5], [2, 10, 3, 11, 6, 14, 7, 15]);
+    let a6 = v[6].shuffle::<8>(v[7], [0, 8, 1, 9, 4, 12, 5, 13]);
+    let a7 = v[6].shuffle::<8>(v[7], [2, 10, 3, 11, 6, 14, 7, 15]);
+    let b0 = a0.shuffle::<8>(a2, [0, 1, 8, 9, 4, 5, 12, 13]);
+    let b1 = a0.shuffle::<8>(a2, [2, 3, 10, 11, 6, 7, 14, 15]);
+    let b2 = a1.shuffle::<8>(a3, [0, 1, 8, 9, 4, 5, 12, 13]);
+    let b3 = a1.shuffle::<8>(a3, [2, 3, 10, 11, 6, 7, 14, 15]);
+    let c0 = a4.shuffle::<8>(a6, [0, 1, 8, 9, 4, 5, 12, 13]);
+    let c1 = a4.shuffle::<8>(a6, [2, 3, 10, 11, 6, 7, 14, 15]);
+    let c2 = a5.shuffle::<8>(a7, [0, 1, 8, 9, 4, 5, 12, 13]);
+    let c3 = a5.shuffle::<8>(a7, [2, 3, 10, 11, 6, 7, 14, 15]);
     [
-        front[0].to_array()[j],
-        front[1].to_array()[j],
-        front[2].to_array()[j],
-        front[3].to_array()[j],
-        front[4].to_array()[j],
-        front[5].to_array()[j],
-        front[6].to_array()[j],
-        front[7].to_array()[j],
-        back[0].to_array()[j],
-        back[1].to_array()[j],
-        back[2].to_array()[j],
-        back[3].to_array()[j],
-        back[4].to_array()[j],
-        back[5].to_array()[j],
-        back[6].to_array()[j],
-        back[7].to_array()[j],
+        b0.shuffle::<8>(c0, [0, 1, 2, 3, 8, 9, 10, 11]),
+        b1.shuffle::<8>(c1, [0, 1, 2, 3, 8, 9, 10, 11]),
+        b2.shuffle::<8>(c2, [0, 1, 2, 3, 8, 9, 10, 11]),
+        b3.shuffle::<8>(c3, [0, 1, 2, 3, 8, 9, 10, 11]),
+        b0.shuffle::<8>(c0, [4, 5, 6, 7, 12, 13, 14, 15]),
+        b1.shuffle::<8>(c1, [4, 5, 6, 7, 12, 13, 14, 15]),
+        b2.shuffle::<8>(c2, [4, 5, 6, 7, 12, 13, 14, 15]),
+        b3.shuffle::<8>(c3, [4, 5, 6, 7, 12, 13, 14, 15]),
+    ]
+}
+
+// The words of two vectors, as one list.
+#[inline(always)]
+pub(crate) fn words_of_both(front: u32x8, back: u32x8) -> [u32; 16]
+    requires front { length front ≡ 8 }
+    requires back { length back ≡ 8 }
+    ensures { result ≡ front ++ back }
+{
+    let a = front.to_array();
+    let b = back.to_array();
+    [
+        a[0], a[1], a[2], a[3], a[4], a[5], a[6], a[7], b[0], b[1], b[2], b[3], b[4], b[5], b[6],
+        b[7],
     ]
 }
 
@@ -449,16 +472,16 @@ pub fn compress8(
     let message = gathered16(m);
     let (low, high) = counters(t);
     let v = states8(&chains, &message, low, high, b, d);
-    let front = front8(&v);
-    let back = back8(&v, &chains);
+    let front = turned8(&front8(&v));
+    let back = turned8(&back8(&v, &chains));
     [
-        both_listed(&front, &back, 0),
-        both_listed(&front, &back, 1),
-        both_listed(&front, &back, 2),
-        both_listed(&front, &back, 3),
-        both_listed(&front, &back, 4),
-        both_listed(&front, &back, 5),
-        both_listed(&front, &back, 6),
-        both_listed(&front, &back, 7),
+        words_of_both(front[0], back[0]),
+        words_of_both(front[1], back[1]),
+        words_of_both(front[2], back[2]),
+        words_of_both(front[3], back[3]),
+        words_of_both(front[4], back[4]),
+        words_of_both(front[5], back[5]),
+        words_of_both(front[6], back[6]),
+        words_of_both(front[7], back[7]),
     ]
 }

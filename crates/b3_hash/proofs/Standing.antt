@@ -1,7 +1,8 @@
 -- A hasher and the bytes that it stands for.
 use Rattle.std.proofs.Common.{◌≡◌, ℕ, ◌+◌, ◌-◌, ◌*◌, ◌/◌, ◌%◌, ◌^◌, ◌<◌, ◌≤◌, List, [], ◌++◌, Option, None, Some}
-use Rattle.std.proofs.Common.{length, take, drop, sym, ap, ◌∙◌, subst, inl, inr, arith}
-use Rattle.std.proofs.lemmas.List.{length-append, length-drop, length-take, drop_all, drop_at, drop-append-le, take_all}
+use Rattle.std.proofs.Common.{length, take, drop, sym, ap, ◌∙◌, subst, inl, inr, append_assoc, arith}
+use Rattle.std.proofs.lemmas.List.{length-append, length-drop, length-take, length-take-le, drop_all, drop_at, drop-append-le}
+use Rattle.std.proofs.lemmas.List.{take_all, take-append-drop}
 use Rattle.std.proofs.lemmas.Bool.{cases_lt}
 use Rattle.b3_core.specs.Nodes.{chaining}
 use Rattle.b3_core.specs.Tree.{top}
@@ -11,7 +12,7 @@ use Rattle.b3_hash.specs.declared.open_chunk.OpenChunk.{OpenChunk}
 use Rattle.b3_hash.specs.OpenChunks.{Begun, IsBegun, begun_len, begun_of}
 use Rattle.b3_hash.specs.Stacks.{stack_of, subtree}
 use Rattle.b3_hash.specs.ChunkHashers.{Chunks, EndsWithChunk, IsAllClosed, chunks_len}
-use Rattle.b3_hash.specs.declared.hasher.Window.{Window}
+use Rattle.b3_hash.specs.declared.window.Window.{Window}
 use Rattle.b3_hash.specs.Hashers.{EndsWith, EndsWithWindow, StandsFor, State, length_of, window_len}
 use Rattle.b3_hash.proofs.BegunChunks.{IsBegun-nil}
 use Rattle.b3_hash.proofs.Runs.{drop-behind, subtree-at}
@@ -136,6 +137,41 @@ IsAllClosed-push mode count next level stack after begun before bytes node value
           ∙ ap (stack_of 54 0 mode input) (sym next_is);
       begun = closed.begun;
       whole = omega (arith, input_len, len, before_len, next_is);
+    }
+
+-- bytes behind whole chunks, of which the last are one subtree: all chunks before that are closed
+pub EndsWithWindow-begin : (mode : Mode) (start count level : ℕ) (stack : List (List ℕ)) (begun : Begun)
+    → (before input rest : List ℕ) (node : Node)
+    → length before ≡ 1024 * start → start ≤ count
+    → 1024 * count + length rest ≡ 1024 * start + length input
+    → rest ≡ drop (1024 * (count - start)) input
+    → stack ≡ stack_of 54 0 mode (before ++ input) count
+    → ((number : ℕ) → IsBegun mode number begun [])
+    → length rest ≡ 1024 * 2 ^ level → node ≡ top mode count rest
+    → EndsWithWindow (record { mode = mode; count = count; stack = stack; begun = begun })
+    (record { node = node; level = level }) (before ++ input)
+EndsWithWindow-begin mode start count level stack begun before input rest node len order both rest_is stack_is empty
+    size node_is =
+    let front = take (1024 * (count - start)) input in
+    let front_len : length front ≡ 1024 * (count - start) =
+    length-take-le (1024 * (count - start)) input (omega arith) in
+    let whole : front ++ rest ≡ input =
+    ap (λ bytes. front ++ bytes) rest_is ∙ take-append-drop (1024 * (count - start)) input in
+    let parts : before ++ input ≡ (before ++ front) ++ rest =
+    sym (append_assoc before front rest ∙ ap (λ bytes. before ++ bytes) whole) in
+    let closed_len : length (before ++ front) ≡ 1024 * count = omega (arith, length-append before front) in record {
+      before = before ++ front;
+      bytes = rest;
+      parts = parts;
+      closed = record {
+        stack = stack_is
+            ∙ ap (λ bytes. stack_of 54 0 mode bytes count) parts
+            ∙ stack_of-append 54 0 mode (before ++ front) rest count (omega arith);
+        begun = empty;
+        whole = closed_len;
+      };
+      size = size;
+      is_top = node_is;
     }
 
 -- what ends with a window has the length of both parts

@@ -4,7 +4,8 @@ ghost use Rattle.std.specs.Prelude.{◌≡◌, ℕ, ◌+◌, ◌*◌, ◌%◌, �
 
 use crate::open_chunk::OpenChunk;
 use crate::subtrees::Subtrees;
-use b3_core::{CHUNK_LEN, Mode, Node};
+use crate::window::Window;
+use b3_core::{CHUNK_LEN, Mode, Node, top};
 use std::marker::Model;
 
 // A mode, the chunks that are closed, and the last one, which is open. There may also be no last chunk
@@ -37,6 +38,7 @@ impl Model for ChunkHasher {
 impl ChunkHasher {
     ghost use Rattle.b3_core.specs.Tree.{top};
     ghost use Rattle.b3_hash.specs.ChunkHashers.{EndsWithChunk, IsAllClosed, chunks_len};
+    ghost use Rattle.b3_hash.specs.Hashers.{EndsWith, IsWellHeld, window_len};
     ghost use Rattle.b3_hash.specs.OpenChunks.{begun_len};
 
     // Of no bytes.
@@ -68,26 +70,28 @@ impl ChunkHasher {
         CHUNK_LEN as u64 * self.closed.chunks + self.last.len() as u64
     }
 
-    // Takes in the next bytes: first as many as the open chunk has room for.
-    pub(crate) fn append(&mut self, input: &[u8])
+    // Takes in the next bytes: first as many as the open chunk has room for. Hands back the last window,
+    // where the bytes then end with one.
+    pub(crate) fn append(&mut self, input: &[u8]) -> Option<Window>
         requires { chunks_len self.old + length input.now < 2 ^ 64 }
         ensures mode { self.new.mode ≡ self.old.mode }
-        ensures len { chunks_len self.new ≡ chunks_len self.old + length input.now }
+        ensures len { chunks_len self.new + window_len result ≡ chunks_len self.old + length input.now }
+        ensures well_held { IsWellHeld self.new result }
         ensures ends_with { (before : List ℕ) → EndsWithChunk self.old before
-            → EndsWithChunk self.new (before ++ input.now) }
+            → EndsWith self.new result (before ++ input.now) }
     {
         let begun = self.last.len();
         if begun == 0 {
-            self.append_chunks(input);
-            return;
+            return self.append_chunks(input);
         }
         let (front, rest) = input.split_at(input.len().min(CHUNK_LEN - begun));
         self.extend_chunk(front);
         // Where no byte is left, the chunk stays open, also a full one: it may be the root.
-        if !rest.is_empty() {
-            self.close_chunk();
-            self.append_chunks(rest);
+        if rest.is_empty() {
+            return None;
         }
+        self.close_chunk();
+        self.append_chunks(rest)
     }
 
     // Takes in bytes of the chunk that is begun.
@@ -117,18 +121,24 @@ impl ChunkHasher {
         self.last = OpenChunk::new(&self.mode);
     }
 
-    // Takes in bytes where no chunk is begun. Behind closed chunks there has to be a byte, since one of
-    // them would else be the last.
-    pub(crate) fn append_chunks(&mut self, input: &[u8])
+    // Takes in bytes where no chunk is begun, and hands back the last window, where they end with one.
+    // Behind closed chunks there has to be a byte, since one of them would else be the last.
+    pub(crate) fn append_chunks(&mut self, input: &[u8]) -> Option<Window>
         requires empty { begun_len self.old.begun ≡ 0 }
         requires fits { chunks_len self.old + length input.now < 2 ^ 64 }
         ensures mode { self.new.mode ≡ self.old.mode }
-        ensures len { chunks_len self.new ≡ chunks_len self.old + length input.now }
+        ensures len { chunks_len self.new + window_len result ≡ chunks_len self.old + length input.now }
+        ensures well_held { IsWellHeld self.new result }
         ensures ends_with { (before : List ℕ) → IsAllClosed self.old before
-            → (0 < self.old.count → 0 < length input.now) → EndsWithChunk self.new (before ++ input.now) }
+            → (0 < self.old.count → 0 < length input.now) → EndsWith self.new result (before ++ input.now) }
     {
-        let rest = self.closed.push_all_but_last(&self.mode, input);
+        let (rest, level) = self.closed.push_all_but_last(&self.mode, input);
+        if level > 0 {
+            let node = top(&self.mode, self.closed.chunks, rest);
+            return Some(Window { node, level });
+        }
         self.last.append(&self.mode, self.closed.chunks, rest);
+        None
     }
 
     // Closes the last chunk, which is full, if there is one.

@@ -6,6 +6,7 @@ ghost use Rattle.std.specs.Prelude.{codes, length, IsErr, OnErr, OnOk};
 use crate::chunk_hasher::ChunkHasher;
 use crate::output::Xof;
 use crate::subtrees::subtree_len;
+use crate::window::Window;
 use b3_core::{Mode, Node};
 use std::error::Error;
 use std::fmt;
@@ -49,18 +50,10 @@ impl fmt::Display for WindowFault {
 
 impl Error for WindowFault {}
 
-// The last 2^level chunks of an input, by the node of their subtree. It is not compressed yet, since it
-// may be the root.
-#[derive(Clone, Copy)]
-pub(crate) struct Window {
-    node: Node,
-    level: u32,
-}
-
 /// The hash of an input that comes piece by piece, of any lengths, and in windows: runs of whole chunks
 /// whose nodes are already made (BLAKE3 (2020), 5.1).
 ///
-/// No call takes memory. The last chunk, or the last window, stays open until a further byte comes, since
+/// No call takes memory. The last chunk, or the last subtree, stays open until a further byte comes, since
 /// it may be the root.
 #[derive(Drop)]
 pub struct Hasher {
@@ -144,14 +137,15 @@ impl Hasher {
         if input.is_empty() {
             return;
         }
-        match self.window {
+        let last = match self.window {
             Some(window) => {
                 self.window = None;
                 self.chunks.push_subtree(&window.node, window.level);
-                self.chunks.append_chunks(input);
+                self.chunks.append_chunks(input)
             }
             None => self.chunks.append(input),
-        }
+        };
+        self.window = last;
     }
 
     /// Takes in the next 2^level chunks of the input, a window, by the node of their subtree: their

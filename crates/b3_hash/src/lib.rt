@@ -14,6 +14,7 @@ mod output;
 mod subtrees;
 #[cfg(test)]
 mod tests;
+mod window;
 
 pub use derivation::derive_mode;
 pub use hasher::{Hasher, TooLong, WindowFault};

@@ -1,6 +1,6 @@
 // The chunks that an incremental hash has closed (BLAKE3 (2020), 5.1.2).
 
-ghost use Rattle.std.specs.Prelude.{◌≡◌, ℕ, ◌+◌, ◌-◌, ◌*◌, ◌/◌, ◌%◌, ◌^◌, ◌<◌, ◌≤◌, [], ◌++◌, List, count_ones, drop};
+ghost use Rattle.std.specs.Prelude.{◌≡◌, ℕ, ◌+◌, ◌-◌, ◌*◌, ◌/◌, ◌%◌, ◌^◌, ◌<◌, ◌≤◌, [], ◌++◌, List, count_ones, drop, max};
 ghost use Rattle.std.specs.Prelude.{length};
 ghost use Rattle.arrayvec.specs.ArrayVec.{array_vec_len};
 ghost use Rattle.b3_core.specs.declared.modes.Mode.{Mode};
@@ -79,42 +79,46 @@ impl Subtrees {
         self.chunks += size;
     }
 
-    // The level of the largest full subtree that begins where the closed chunks end, has its chunks among
-    // the next `len` bytes, and leaves one of these bytes over.
+    // The level of the largest full subtree that begins where the closed chunks end and has its chunks
+    // among the next `len` bytes; 0 where these are less than a chunk.
     fn next_level(&self, len: usize) -> u32
-        requires more { 1024 < len }
-        requires fits { 1024 * self.now.chunks + len < 2 ^ 64 }
+        requires { 1024 * self.now.chunks + len < 2 ^ 64 }
         ensures level { result < 54 }
         ensures aligned { self.now.chunks % 2 ^ result ≡ 0 }
-        ensures within { 1024 * 2 ^ result < len }
-        ensures largest { self.now.chunks % 2 ^ (result + 1) ≡ 0 → len ≤ 1024 * 2 ^ (result + 1) }
+        ensures within { 1024 * 2 ^ result ≤ max len 1024 }
+        ensures largest { self.now.chunks % 2 ^ (result + 1) ≡ 0 → len < 1024 * 2 ^ (result + 1) }
     {
-        let full = (len - 1) / CHUNK_LEN;
+        let full = (len / CHUNK_LEN).max(1);
         full.ilog2().min(self.chunks.trailing_zeros())
     }
 
-    // Takes in the chunks of the bytes but the last, and hands back the last, which may be full.
-    pub(crate) fn push_all_but_last<'a>(&mut self, mode: &Mode, bytes: &'a [u8]) -> &'a [u8]
+    // Takes in the subtrees of the bytes but the last, and hands back the bytes of the last and its level.
+    // At level 0 it is a chunk, which may be short; else it is full.
+    pub(crate) fn push_all_but_last<'a>(&mut self, mode: &Mode, bytes: &'a [u8]) -> (&'a [u8], u32)
         requires { 1024 * self.old.chunks + length bytes.now < 2 ^ 64 }
         ensures forward { self.old.chunks ≤ self.new.chunks }
-        ensures len { 1024 * self.new.chunks + length result.now ≡ 1024 * self.old.chunks + length bytes.now }
-        ensures rest { result.now ≡ drop (1024 * (self.new.chunks - self.old.chunks)) bytes.now }
-        ensures some { 0 < length bytes.now → 0 < length result.now }
-        ensures last { length result.now ≤ 1024 }
+        ensures len { 1024 * self.new.chunks + length result.0.now ≡ 1024 * self.old.chunks + length bytes.now }
+        ensures rest { result.0.now ≡ drop (1024 * (self.new.chunks - self.old.chunks)) bytes.now }
+        ensures some { 0 < length bytes.now → 0 < length result.0.now }
+        ensures last { length result.0.now ≤ 1024 * 2 ^ result.1 }
+        ensures full { 0 < result.1 → length result.0.now ≡ 1024 * 2 ^ result.1 }
+        ensures level { result.1 < 54 }
+        ensures aligned { self.new.chunks % 2 ^ result.1 ≡ 0 }
         ensures values { (before : List ℕ) → length before ≡ 1024 * self.old.chunks
             → self.old.values.items ≡ stack_of 54 0 mode.now before self.old.chunks
             → self.new.values.items ≡ stack_of 54 0 mode.now (before ++ bytes.now) self.new.chunks }
     {
         let mut rest = bytes;
-        // Not `>=`: a full last chunk stays open, since it is the root where nothing follows.
-        while rest.len() > CHUNK_LEN {
-            let level = self.next_level(rest.len());
+        let mut level = self.next_level(rest.len());
+        // Not `>=`: a full last subtree is not closed, since it is the root where nothing follows.
+        while rest.len() as u64 > subtree_len(level) {
             let (first, others) = rest.split_at(subtree_len(level) as usize);
             let value = top(mode, self.chunks, first).chaining();
             self.push(mode, value, level);
             rest = others;
+            level = self.next_level(rest.len());
         }
-        rest
+        (rest, level)
     }
 
     // The root of the tree over the closed chunks and a last node, which is the top of all bytes behind

@@ -132,6 +132,22 @@ fn counters_across_2_to_the_32(rt: HostRuntime) -> Result<(), Fail> {
     Ok(())
 }
 
+// Also where the counters' low words wrap, and up to the last counter.
+#[test]
+fn eight_output_blocks(rt: HostRuntime) {
+    let node = chunk_node(&Mode::keyed(KEY), 3, b"abc");
+    for first in [0, 1, FIRST, u64::MAX - 7] {
+        let blocks = node.blocks8(first);
+        for j in 0..8usize {
+            assert_eq!(rt;
+                blocks[64 * j..64 * j + 64],
+                node.block(first + j as u64)[..],
+                "block {j} from {first} on"
+            );
+        }
+    }
+}
+
 #[test]
 fn eight_compressions_of_one_block(rt: HostRuntime) {
     let mode = Mode::hash();

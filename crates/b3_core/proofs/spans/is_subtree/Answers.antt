@@ -21,16 +21,19 @@ returns-then-span-eq0 c = (
 pub returns-then-span-whole : goal.returns-then-span-whole
 returns-then-span-whole c =
     let p = c.next_power_of_two-whole.ensures in (
-      λ h. IsSubtree-from_tests c.args.n c.args.span.first c.args.span.count _ p.power p.lower_bound p.upper_bound (omega arith) (omega arith) c.if-span-whole-eq0.true (inl c.if-span-whole.true),
+      λ h. IsSubtree-from_tests c.args.n c.args.span.first c.args.span.count _ p.power p.lower_bound p.upper_bound
+          (omega arith) (omega arith) c.if-span-whole-eq0.true (inl c.if-span-whole.true),
       λ h. eq-eqb _ _ c.if-span-whole.true,
     )
 
 pub returns-else-span-whole : goal.returns-else-span-whole
 returns-else-span-whole c =
     let p = c.next_power_of_two-whole.ensures in (
-      λ h. IsSubtree-from_tests c.args.n c.args.span.first c.args.span.count _ p.power p.lower_bound p.upper_bound (omega arith) (omega arith) c.if-span-whole-eq0.true (inr (eqb-true _ _ h)),
+      λ h. IsSubtree-from_tests c.args.n c.args.span.first c.args.span.count _ p.power p.lower_bound p.upper_bound
+          (omega arith) (omega arith) c.if-span-whole-eq0.true (inr (eqb-true _ _ h)),
       λ h.
-          let tests = tests-from_IsSubtree c.args.n c.args.span.first c.args.span.count _ c.requires.some p.power p.lower_bound p.upper_bound h in
+          let tests = tests-from_IsSubtree c.args.n c.args.span.first c.args.span.count _ c.requires.some p.power
+          p.lower_bound p.upper_bound h in
           elim tests.3 [ inl full ↦ absurd (c.if-span-whole.false full) | inr end ↦ eq-eqb _ _ end ],
     )
 
@@ -38,5 +41,6 @@ pub returns-else-span-whole-eq0 : goal.returns-else-span-whole-eq0
 returns-else-span-whole-eq0 c =
     let p = c.next_power_of_two-whole.ensures in (
       λ h. absurd (c.if-span-whole-eq0.false (eqb-true _ _ h)),
-      λ h. eq-eqb _ _ (tests-from_IsSubtree c.args.n c.args.span.first c.args.span.count _ c.requires.some p.power p.lower_bound p.upper_bound h).2,
+      λ h. eq-eqb _ _ (tests-from_IsSubtree c.args.n c.args.span.first c.args.span.count _ c.requires.some p.power
+          p.lower_bound p.upper_bound h).2,
     )

@@ -28,7 +28,8 @@ overflow_add-end c =
 pub returns-then-span-eq0-clause-found : goal.returns-then-span-eq0-clause-found
 returns-then-span-eq0-clause-found c =
     let up : IsSubtree c.args.n c.args.span.first c.args.span.count = search rules in
-    rw c.min-count.ensures (inl (left_sibling c.args.n c.args.span.first c.args.span.count c.requires.some up c.if-span-eq0.true c.if-end-n.true))
+    rw c.min-count.ensures (inl (left_sibling c.args.n c.args.span.first c.args.span.count c.requires.some up
+    c.if-span-eq0.true c.if-end-n.true))
 
 pub returns-then-span-eq0-clause-only : goal.returns-then-span-eq0-clause-only
 returns-then-span-eq0-clause-only c = λ other siblings.

@@ -23,8 +23,9 @@ lanes-preserved c =
     let lt : j < 8 = omega arith in
     let flags = bit_or node.d 8 in
     let words =
-    c.both_listed-words.ensures
-    ∙ (λ i. c.front8-front.ensures.lanes j (lane j c.spread-h.result) lt i ++ c.back8-back.ensures.lanes j lt i)
+    c.words_of_both-words.ensures
+    ∙ (λ i. c.turned8-front.ensures.lanes j lt i ++ c.turned8-back.ensures.lanes j lt i)
+    ∙ (λ i. c.front8.ensures.lanes j (lane j c.spread-h.result) lt i ++ c.back8.ensures.lanes j lt i)
     ∙ (λ i. output (c.states8-v.ensures.lanes j (first + j) lt (c.counters_from.ensures.low j lt)
     (c.counters_from.ensures.high j lt) i) (lane j c.spread-h.result))
     ∙ (λ i. compress (c.spread-h.ensures.lanes j lt i) (c.spread_message-m.ensures.lanes j lt i) (first + j)

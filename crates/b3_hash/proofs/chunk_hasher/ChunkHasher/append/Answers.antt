@@ -3,6 +3,7 @@ use Rattle.std.proofs.lemmas.Bool.{eqb-false, eqb-true}
 use Rattle.std.proofs.lemmas.List.{append-nil, nil_from_length, take-append-drop}
 use Rattle.b3_hash.specs.OpenChunks.{begun_len}
 use Rattle.b3_hash.specs.ChunkHashers.{EndsWithChunk, Chunks}
+use Rattle.b3_hash.specs.Hashers.{EndsWith}
 use Rattle.b3_hash.proofs.Standing.{IsAllClosed-none, begun_len-begun_of, length-EndsWithChunk}
 use Rattle.b3_hash.proofs.chunk_hasher.ChunkHasher.append.Goals as goal
 
@@ -14,29 +15,29 @@ returns-then-begun-eq0-clause-ends_with c = λ before held.
     let closed = IsAllClosed-none c.args.self.now before held empty in
     c.append_chunks.ensures.ends_with before closed (λ some. let more = held.further some in absurd (omega arith))
 
-pub returns-then-not-is_empty-clause-ends_with : goal.returns-then-not-is_empty-clause-ends_with
-returns-then-not-is_empty-clause-ends_with c = λ before held.
+pub returns-then-is_empty-clause-ends_with : goal.returns-then-is_empty-clause-ends_with
+returns-then-is_empty-clause-ends_with c = λ before held.
     let input = c.args.input.now in
     let front = c.split_at.result.0.now in
     let rest = c.split_at.result.1.now in
-    let not_empty = eqb-false (length rest) 0 (sym c.is_empty.ensures ∙ c.if-not-is_empty.true) in
-    let some : 0 < length rest = omega (arith, not_empty) in
-    let closed = c.close_chunk.ensures.closed (before ++ front) (c.extend_chunk.ensures.ends_with before held) in
-    let whole : front ++ rest ≡ input =
-    (λ i. c.split_at.ensures.front i ++ c.split_at.ensures.back i) ∙ take-append-drop c.min.result input in
-    let joined = append_assoc before front rest ∙ ap (λ bytes. before ++ bytes) whole in
-    subst (EndsWithChunk c.append_chunks-then-not-is_empty.new.self) joined
-    (c.append_chunks-then-not-is_empty.ensures.ends_with (before ++ front) closed (λ _. some))
-
-pub returns-else-not-is_empty-clause-ends_with : goal.returns-else-not-is_empty-clause-ends_with
-returns-else-not-is_empty-clause-ends_with c = λ before held.
-    let input = c.args.input.now in
-    let front = c.split_at.result.0.now in
-    let rest = c.split_at.result.1.now in
-    let none : length rest ≡ 0 = eqb-true (length rest) 0 (sym c.is_empty.ensures ∙ c.if-not-is_empty.false) in
+    let none : length rest ≡ 0 = eqb-true (length rest) 0 (sym c.is_empty.ensures ∙ c.if-is_empty.true) in
     let whole : front ++ rest ≡ input =
     (λ i. c.split_at.ensures.front i ++ c.split_at.ensures.back i) ∙ take-append-drop c.min.result input in
     let all : front ≡ input =
     sym (append-nil front) ∙ ap (λ bytes. front ++ bytes) (sym (nil_from_length rest none)) ∙ whole in
     subst (EndsWithChunk c.extend_chunk.new.self) (ap (λ bytes. before ++ bytes) all)
     (c.extend_chunk.ensures.ends_with before held)
+
+pub returns-clause-ends_with : goal.returns-clause-ends_with
+returns-clause-ends_with c = λ before held.
+    let input = c.args.input.now in
+    let front = c.split_at.result.0.now in
+    let rest = c.split_at.result.1.now in
+    let not_empty = eqb-false (length rest) 0 (sym c.is_empty.ensures ∙ c.if-is_empty.false) in
+    let some : 0 < length rest = omega (arith, not_empty) in
+    let closed = c.close_chunk.ensures.closed (before ++ front) (c.extend_chunk.ensures.ends_with before held) in
+    let whole : front ++ rest ≡ input =
+    (λ i. c.split_at.ensures.front i ++ c.split_at.ensures.back i) ∙ take-append-drop c.min.result input in
+    let joined = append_assoc before front rest ∙ ap (λ bytes. before ++ bytes) whole in
+    subst (EndsWith c.append_chunks-2.new.self c.append_chunks-2.result) joined
+    (c.append_chunks-2.ensures.ends_with (before ++ front) closed (λ _. some))

@@ -1,4 +1,4 @@
-use Rattle.std.proofs.Common.{◌≡◌, ◌+◌, ◌-◌, ◌/◌, ◌%◌, ◌^◌, ◌<◌, ◌≤◌, ◌∙◌, inl, inr, suc, ap, subst, lit<, arith}
+use Rattle.std.proofs.Common.{◌≡◌, ◌+◌, ◌/◌, ◌%◌, ◌^◌, ◌<◌, ◌≤◌, max, ◌∙◌, inl, inr, suc, ap, subst, lit<, arith}
 use Rattle.std.proofs.Math.Nat.{pow-le-pow_right, pow-suc}
 use Rattle.std.proofs.lemmas.Bool.{cases_lt}
 use Rattle.std.specs.Int.{w64, trailing_zeros}
@@ -8,11 +8,11 @@ use Rattle.b3_hash.proofs.subtrees.Subtrees.next_level.Goals as goal
 pub returns-clause-within : goal.returns-clause-within
 returns-clause-within c =
     let lower : 2 ^ c.min.result ≤ 2 ^ c.ilog2.result = pow-le-pow_right (lit< tt) (omega (arith, c.min.ensures)) in
-    omega (arith, lower, c.ilog2.ensures.power_le)
+    omega (arith, lower, c.ilog2.ensures.power_le, c.max-full.ensures)
 
 pub returns-clause-level : goal.returns-clause-level
 returns-clause-level c =
-    exponent-below 54 c.min.result ((c.args.len - 1) / 1024) (omega (arith, returns-clause-within c)) (omega arith)
+    exponent-below 54 c.min.result (max (c.args.len / 1024) 1) (omega (arith, returns-clause-within c)) (omega arith)
 
 pub returns-clause-aligned : goal.returns-clause-aligned
 returns-clause-aligned c =
@@ -31,5 +31,5 @@ returns-clause-largest c = λ aligned.
           let up : c.min.result + 1 ≡ suc c.min.result = omega arith in
           let power = ap (λ k. 2 ^ k) up ∙ pow-suc 2 c.min.result in
           let same = ap (λ k. 2 ^ k) level in
-          omega (arith, power, same, c.ilog2.ensures.next_power_gt)
+          omega (arith, power, same, c.ilog2.ensures.next_power_gt, c.max-full.ensures)
     ]
