@@ -115,7 +115,8 @@ impl Digester {
         requires turns { limits.turns ≤ 2 ^ 40 }
         ensures whole { IfOk result (λ read. MatchOption read (S.is_sure shelf.old ≡ false)
             (λ output. IsOutputOf (S.told shelf.old) (S.left shelf.old) self.old.output.mode output)) }
-        ensures fault { IfErr result (λ fault. IsFaultOfRest fault (S.told shelf.old) limits Hashed (S.left shelf.old)) }
+        ensures fault { IfErr result (λ fault.
+            IsFaultOfRest fault (S.told shelf.old) limits Hashed (S.left shelf.old)) }
         ensures no_sink { is_write_fault result ≡ false }
         ensures count { S.failures shelf.new ≡ S.failures shelf.old + is_unread result }
         ensures told { S.told shelf.new ≡ S.told shelf.old }
@@ -172,7 +173,8 @@ impl Digester {
             ≤ limits.new.turns + self.new.current.filled + WINDOW_LEN }
         ensures few { OnOk result (self.new.current.filled + WINDOW_LEN + READ_LEN * limits.new.turns
             ≤ self.old.current.filled + READ_LEN * limits.old.turns) }
-        ensures fault { IfErr result (λ fault. IsFaultOfRest fault (S.told shelf.old) limits.old Hashed (S.left shelf.old)) }
+        ensures fault { IfErr result (λ fault.
+            IsFaultOfRest fault (S.told shelf.old) limits.old Hashed (S.left shelf.old)) }
         ensures no_sink { is_write_fault result ≡ false }
         ensures sure { IsTrue (S.is_sure shelf.old) → result ≢ Ok Failed }
         ensures count { S.failures shelf.new ≡ S.failures shelf.old + failed_reads result }

@@ -50,7 +50,8 @@ pub fn fill<S: Shelf>(
         → limits.old.turns + buffer.old.filled ≤ limits.new.turns + buffer.new.filled }
     ensures few { OnOk result (buffer.new.filled + READ_LEN * limits.new.turns
         ≤ buffer.old.filled + READ_LEN * limits.old.turns) }
-    ensures fault { IfErr result (λ fault. IsFaultOfRest fault (S.told shelf.old) limits.old Hashed (S.left shelf.old)) }
+    ensures fault { IfErr result (λ fault.
+        IsFaultOfRest fault (S.told shelf.old) limits.old Hashed (S.left shelf.old)) }
     ensures no_sink { is_write_fault result ≡ false }
     ensures sure { IsTrue (S.is_sure shelf.old) → result ≢ Ok Failed }
     ensures count { S.failures shelf.new ≡ S.failures shelf.old + failed_reads result }

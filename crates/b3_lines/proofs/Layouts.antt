@@ -72,7 +72,8 @@ LiesAs-plain rest digits digest spelled are whole =
 -- ---- tagged
 
 -- the parts of a tagged line, cut up
-module _ (rest digits spelled : List ℕ) (whole : rest ≡ tag ++ spelled ++ closing ++ digits) (count : length digits ≡ 64) where
+module _ (rest digits spelled : List ℕ) (whole : rest ≡ tag ++ spelled ++ closing ++ digits)
+    (count : length digits ≡ 64) where
   -- how long it is
   length-tagged : length rest ≡ length spelled + 76
   length-tagged =
@@ -141,7 +142,8 @@ join-tagged rest tagged long parted =
     let inner : behind ≡ name ++ (closing ++ drop start rest) =
     sym (take-append-drop (start - 12) behind) ∙ ap (λ t. name ++ t) (closed ∙ tail) in
     is_tagged-append rest tagged ∙ ap (λ t. tag ++ t) inner
-    ∙ sym (append_assoc tag name (closing ++ drop start rest)) ∙ sym (append_assoc (tag ++ name) closing (drop start rest))
+    ∙ sym (append_assoc tag name (closing ++ drop start rest))
+    ∙ sym (append_assoc (tag ++ name) closing (drop start rest))
 
 -- ---- of either form
 
@@ -181,7 +183,8 @@ joined-tagged rest tagged long parted =
 -- ---- where a text may be cut
 
 -- a text may be cut behind `BLAKE3 (`
-pub IsCharBoundary-tag : (rest : List ℕ) → IsUtf8 rest → 76 ≤ length rest → is_tagged rest ≡ true → IsCharBoundary rest 8
+pub IsCharBoundary-tag : (rest : List ℕ) → IsUtf8 rest → 76 ≤ length rest → is_tagged rest ≡ true
+    → IsCharBoundary rest 8
 IsCharBoundary-tag rest utf8 long tagged =
     let last : slice_index rest 7 ≡ 40 = ap (λ t. slice_index t 7) (is_tagged-append rest tagged) in
     IsCharBoundary-after_ascii rest 7 utf8 (omega (arith, long)) (omega (arith, last))
@@ -195,5 +198,8 @@ IsCharBoundary-closing rest long parted =
     let four = (bytes_eq-Decides (take 4 (drop at rest)) closing).0 parted in
     let none : at ≡ at + 0 = omega arith in
     let first : slice_index rest at ≡ 41 =
-    ap (slice_index rest) none ∙ sym (get_or-drop at rest 0 0) ∙ sym (get_or-take 4 (drop at rest) 0 0 (omega arith)) ∙ ap (λ t. slice_index t 0) four in
+    ap (slice_index rest) none
+    ∙ sym (get_or-drop at rest 0 0)
+    ∙ sym (get_or-take 4 (drop at rest) 0 0 (omega arith))
+    ∙ ap (λ t. slice_index t 0) four in
     IsCharBoundary-before_ascii rest at (omega (arith, long)) (omega (arith, first))

@@ -179,7 +179,8 @@ unfolding tagged_text
 without_return-tagged digest name count bytes =
     let digits = AreDigits-encode_lower digest count bytes in
     without_return-same (mark name ++ tag ++ escaped name ++ closing) (encode_lower digest)
-    (λ none. absurd (omega (arith, digits.count, ap length none))) (no_return-digits (encode_lower digest) digest digits)
+    (λ none. absurd (omega (arith, digits.count, ap length none)))
+    (no_return-digits (encode_lower digest) digest digits)
 
 -- the tagged line of a marked name
 tagged-marked : (digest name : List ℕ) → is_marked name ≡ true

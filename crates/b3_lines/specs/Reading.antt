@@ -152,7 +152,8 @@ pub record SaysOne (line : List ℕ) : Type 0 where
 -- a line that is not refused says one thing, and one that is refused says nothing
 abbrev pub HasOneOutcome : List ℕ → Type 0
 HasOneOutcome line =
-    MatchOption (first_refusal line) (SaysOne line) (λ _. (digest name shown : List ℕ) → ¬ IsReadAs line digest name shown)
+    MatchOption (first_refusal line) (SaysOne line)
+    (λ _. (digest name shown : List ℕ) → ¬ IsReadAs line digest name shown)
 
 -- no accepted plain line begins with `BLAKE3 (`, and so no line is read both ways
 pub record HasOneForm (line : List ℕ) : Type 0 where

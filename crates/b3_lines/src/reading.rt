@@ -236,7 +236,8 @@ fn cut_plain(rest: &str) -> Result<Cut<'_>, LineFault>
 /// What follows the mark of a tagged line, cut up from its end.
 fn cut_tagged(rest: &str) -> Result<Cut<'_>, LineFault>
     requires { is_tagged rest.now ≡ true }
-    ensures refused { IfErr result (λ fault. (marked : Bool) → refusal_of marked (tagged_layout rest.now) ≡ Some fault) }
+    ensures refused { IfErr result (λ fault. (marked : Bool)
+        → refusal_of marked (tagged_layout rest.now) ≡ Some fault) }
     ensures taken { IfOk result (λ cut. IsCut (tagged_layout rest.now) cut.digest cut.spelled.now) }
 {
     let bytes = rest.as_bytes();

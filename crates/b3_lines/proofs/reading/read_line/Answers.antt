@@ -44,7 +44,8 @@ returns-in_err-parts-clause-memory c =
 pub returns-clause-read : goal.returns-clause-read
 returns-clause-read c =
     let parts = c.in_ok-parts.parts in
-    IsReadAs-from_SaysAs c.args.line.now parts.digest (string_bytes c.in_ok-name.name) (string_bytes c.in_ok-shown.shown)
+    IsReadAs-from_SaysAs c.args.line.now parts.digest (string_bytes c.in_ok-name.name)
+    (string_bytes c.in_ok-shown.shown)
     (SaysAs-from_parts c.args.line.now parts.digest parts.spelled.now _ _ parts.marked parts.escapes
     c.in_ok-parts.ensures.taken
     c.in_ok-name.ensures c.in_ok-shown.ensures)

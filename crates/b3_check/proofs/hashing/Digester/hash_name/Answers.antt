@@ -16,4 +16,5 @@ returns-clause-digest g c =
     let is_output = subst (λ t. IsOutputOf t left output.mode c.in-Some.output) c.begin.ensures.told read in
     digest_whole told (g.S.Shelf.is_sure c.args.shelf.now) c.args.name.now left output c.in-Some.output
     c.take_digest.new.self.digest.items has is_output
-    (λ content is. (rw c.hash_rest.ensures.output at c.take_digest.ensures.digest) ∙ ap (λ (r : Reader). output_bytes r.node output.seek output.length) is)
+    (λ content is. (rw c.hash_rest.ensures.output at c.take_digest.ensures.digest)
+    ∙ ap (λ (r : Reader). output_bytes r.node output.seek output.length) is)

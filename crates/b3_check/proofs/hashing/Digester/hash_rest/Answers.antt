@@ -21,7 +21,8 @@ returns-in_err-next-clause-fault g c =
     let current = c.windows.self.current in
     let is_more : c.windows.found ≡ More = search rules in
     let many = held.many is_more in
-    let moved : IsFaultOfRest c.in_err-next.field-0.0 (shelf.told c.args.shelf.now) c.args.limits Hashed (shelf.left c.args.shelf.now) =
+    let moved : IsFaultOfRest c.in_err-next.field-0.0 (shelf.told c.args.shelf.now) c.args.limits Hashed
+    (shelf.left c.args.shelf.now) =
     later_fault (shelf.told c.args.shelf.now) c.args.limits c.windows.left (shelf.left c.args.shelf.now)
     (shelf.left c.windows.shelf) c.in_err-next.field-0.0 (λ told longer.
     let parts = ap (λ (xs : List ℕ). length xs) (held.more_bytes is_more told) in
@@ -54,7 +55,10 @@ windows-preserved g c =
       output = next.output ∙ held.output;
       aligned = (λ i. len i % WINDOW_LEN) ∙ add-mod_right (length_of c.windows.hasher) WINDOW_LEN ∙ held.aligned;
       size = omega (arith, len, held.size, next.few);
-      many = λ is. let more = next.many (ap Ok is) in let before = held.many is_more in omega (arith, len, more, before);
+      many = λ is.
+          let more = next.many (ap Ok is) in
+          let before = held.many is_more in
+          omega (arith, len, more, before);
       full = λ is. next.more (ap Ok is);
       little = λ is. next.little (ap Ok is);
       turns = λ is. next.turns (ap Ok is);
@@ -73,15 +77,20 @@ returns-clause-whole g c =
     let hasher = c.windows.hasher in
     let len = length-StandsFor hasher before held.stands in
     let is_last : c.windows.found ≡ Last = is-Last c.windows.found (search rules) (search rules) in
-    let number : c.len.result / 1024 ≡ length before / 1024 = ap (λ n. n / 1024) (c.len.ensures.stands_for before held.stands) in
+    let number : c.len.result / 1024 ≡ length before / 1024 =
+    ap (λ n. n / 1024) (c.len.ensures.stands_for before held.stands) in
     let last_is : c.window_node-last.result ≡ top (mode_of hasher) (length before / 1024) filled =
     c.window_node-last.ensures ∙ (λ i. top (sym held.mode i) (number i) (c.filled.ensures.bytes i)) in
     let node = c.finish_with.ensures 10 before filled held.stands (omega arith)
     (ap (λ n. n % WINDOW_LEN) len ∙ held.aligned)
     (omega (arith, held.last is_last, length-filled_bytes c.windows.self.current))
-    (λ positive. let some = held.some is_last (omega (arith, positive, len)) in omega (arith, some, length-filled_bytes c.windows.self.current))
+    (λ positive.
+    let some = held.some is_last (omega (arith, positive, len)) in
+    omega (arith, some, length-filled_bytes c.windows.self.current))
     last_is in record {
       content = before ++ filled;
       whole = λ told. held.last_bytes is_last told;
-      output = node ∙ ap (λ (mode : Mode). record { node = top mode 0 (before ++ filled); place = 0 }) (held.mode ∙ ap (λ output. output.mode) held.output);
+      output = node
+          ∙ ap (λ (mode : Mode). record { node = top mode 0 (before ++ filled); place = 0 })
+          (held.mode ∙ ap (λ output. output.mode) held.output);
     }

@@ -13,7 +13,8 @@ returns-clause-hashed g c = λ before stands.
     let window = take WINDOW_LEN (filled_bytes current) in
     let size = length-take-le WINDOW_LEN (filled_bytes current)
     (omega (arith, c.requires.full, length-filled_bytes current)) in
-    let number : c.len.result / 1024 ≡ length before / 1024 = ap (λ n. n / 1024) (c.len.ensures.stands_for before stands) in
+    let number : c.len.result / 1024 ≡ length before / 1024 =
+    ap (λ n. n / 1024) (c.len.ensures.stands_for before stands) in
     let bytes : c.split_at.result.0.now ≡ window =
     c.split_at.ensures.front ∙ ap (take WINDOW_LEN) c.filled.ensures.bytes in
     let node : c.window_node-node.result ≡ top (mode_of c.args.hasher.now) (length before / 1024) window =
