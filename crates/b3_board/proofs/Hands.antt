@@ -1,11 +1,12 @@
--- Sums over what workers hold, the rows that they have seen, and the chunks of the spans that they claimed.
-use Rattle.std.proofs.Common.{◌≡◌, ℕ, zero, suc, ◌+◌, ◌*◌, ◌<◌, ◌≤◌, ◌^◌, Bool, true, false, ◌||◌, true≢false, List, [], ◌∷◌, ◌++◌, length, get_or, refl, sym, arith, mul-le-mul_right}
+-- Sums over what workers hold, and the chunks of the spans that they claimed.
+use Rattle.std.proofs.Common.{◌≡◌, ℕ, zero, suc, ◌+◌, ◌*◌, ◌<◌, ◌≤◌, ◌^◌, List, [], ◌∷◌, length, get_or, refl, ap, ◌∙◌, arith, mul-le-mul_right}
 use Rattle.std.specs.List.{sum_by}
 use Rattle.std.proofs.lemmas.List.Sums.{sum_by-append, sum_by-cons, sum_by-le}
 use Rattle.b3_core.specs.declared.tree.Span.{Span}
-use Rattle.b3_board.specs.Claiming.{has, united}
+use Rattle.b3_board.specs.Claiming.{joined}
 use Rattle.b3_board.specs.Runs.{claimed_chunks, count_at}
 use Rattle.b3_board.specs.Spans.{chunks_in}
+use Rattle.b3_board.specs.declared.claim_rule.View.{View}
 
 -- lists of one length whose elements agree under f, place by place, have one sum
 pub sum_by-same : {X : Type 0} (f : X → ℕ) (xs ys : List X) → length xs ≡ length ys
@@ -21,20 +22,10 @@ sum_by-same f (x ∷ xs) (y ∷ ys) e each =
     let second = sum_by-cons f y ys in
     omega arith
 
-or-right : (a b : Bool) → b ≡ true → (a || b) ≡ true
-or-right true b e = refl
-or-right false b e = e
-
--- what the second row has, both together have
-pub has-united_right : (xs ys : List Bool) (i : ℕ) → has ys i ≡ true → has (united xs ys) i ≡ true
-has-united_right [] ys i e = e
-has-united_right (x ∷ xs) [] i e = absurd (true≢false (sym e))
-has-united_right (x ∷ xs) (y ∷ ys) zero e = or-right x y e
-has-united_right (x ∷ xs) (y ∷ ys) (suc i) e = has-united_right xs ys i e
-
-pub claimed_chunks-append : (spans : List Span) (xs ys : List ℕ)
-    → claimed_chunks spans (xs ++ ys) ≡ claimed_chunks spans xs + claimed_chunks spans ys
-claimed_chunks-append spans xs ys = sum_by-append (count_at spans) xs ys
+pub claimed_chunks-joined : (spans : List Span) (u v w : View) → u ≡ joined v w
+    → claimed_chunks spans u.claimed ≡ claimed_chunks spans v.claimed + claimed_chunks spans w.claimed
+claimed_chunks-joined spans u v w e =
+    ap (λ (x : View). claimed_chunks spans x.claimed) e ∙ sum_by-append (count_at spans) v.claimed w.claimed
 
 -- no span has more chunks than all of them together
 count_at-le : (spans : List Span) (i : ℕ) → count_at spans i ≤ chunks_in spans

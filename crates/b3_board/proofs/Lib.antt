@@ -32,5 +32,5 @@ pub mod ClaimSteps
 pub mod SeatViews
 -- What a worker did, after one more try.
 pub mod Working
--- Sums over what workers hold, the rows that they have seen, and the chunks of the spans that they claimed.
+-- Sums over what workers hold, and the chunks of the spans that they claimed.
 pub mod Hands

@@ -1,6 +1,5 @@
 -- What one more try of a worker does to what it has done.
 use Rattle.std.proofs.Common.{◌≡◌, ℕ, ◌+◌, ◌<◌, ◌≤◌, Bool, true, false, List, [], ◌∷◌, ◌++◌, length, set, sym, subst, ap, ◌∙◌, arith, if◌then◌else◌, append_assoc}
-use Rattle.std.proofs.lemmas.List.{get_or-set_same, get_or-set_other}
 use Rattle.std.proofs.lemmas.List.Sums.{sum_by_push}
 use mathlib.Core.Logic.{dite}
 use native.Mathlib.Decide.{ℕ_discrete}
@@ -10,25 +9,29 @@ use Rattle.b3_board.specs.Runs.{HasWorked, claimed_chunks, count_at}
 use Rattle.b3_board.specs.Seats.{BeginsWith, Seated}
 use Rattle.b3_board.specs.Shares.{Holding}
 use Rattle.b3_board.specs.declared.claim_rule.View.{View}
+use Rattle.b3_board.proofs.ClaimedIndexes.{has-set_kept, has-set_same}
 
 has-tried : (v : View) (i j : ℕ) (won : Bool) → i < length v.seen → ((k : ℕ) → k < i → has v.seen k ≡ true) → j < i + 1
     → has (tried v i won).seen j ≡ true
 has-tried v i j won inside before lt =
     dite (ℕ_discrete j i)
-    (λ same. subst (λ (k : ℕ). has (set v.seen i true) k ≡ true) (sym same) (get_or-set_same v.seen i true false inside))
-    (λ other. get_or-set_other v.seen i j true false other ∙ before j (omega arith))
+    (λ same. subst (λ (k : ℕ). has (set v.seen i true) k ≡ true) (sym same) (has-set_same v.seen i inside))
+    (λ other. has-set_kept v.seen i j (before j (omega arith)))
 
 BeginsWith-tried : (v : View) (i : ℕ) (won : Bool) (start : List ℕ) → BeginsWith v.claimed start
     → BeginsWith (tried v i won).claimed start
-BeginsWith-tried v i true start begins = (begins.0 ++ i ∷ [], ap (λ (xs : List ℕ). xs ++ i ∷ []) begins.1 ∙ append_assoc start begins.0 (i ∷ []))
+BeginsWith-tried v i true start begins =
+    (begins.0 ++ i ∷ [], ap (λ (xs : List ℕ). xs ++ i ∷ []) begins.1 ∙ append_assoc start begins.0 (i ∷ []))
 BeginsWith-tried v i false start begins = begins
 
 claimed_chunks-tried : (spans : List Span) (v : View) (i : ℕ) (won : Bool)
-    → claimed_chunks spans (tried v i won).claimed ≡ claimed_chunks spans v.claimed + (if won then count_at spans i else 0)
+    → claimed_chunks spans (tried v i won).claimed
+    ≡ claimed_chunks spans v.claimed + (if won then count_at spans i else 0)
 claimed_chunks-tried spans v i true = sum_by_push (count_at spans) v.claimed i
 claimed_chunks-tried spans v i false = omega arith
 
-pub HasWorked-tried : (spans : List Span) (i : ℕ) (won : Bool) (old_seat seat next_seat : Seated) (old_share share next_share : Holding)
+pub HasWorked-tried : (spans : List Span) (i : ℕ) (won : Bool) (old_seat seat next_seat : Seated)
+    (old_share share next_share : Holding)
     → HasWorked spans i old_seat old_share seat share
     → i < length seat.view.seen
     → next_seat.view ≡ tried seat.view i won
@@ -45,6 +48,7 @@ HasWorked-tried spans i won old_seat seat next_seat old_share share next_share w
       seat_parts = ap (λ (w : View). w.parts) view ∙ worked.seat_parts;
       share_parts = parts ∙ worked.share_parts;
       seen = λ j lt. ap (λ (w : View). has w.seen j) view ∙ has-tried v i j won inside worked.seen lt;
-      begins = subst (λ (w : View). BeginsWith w.claimed old_seat.view.claimed) (sym view) (BeginsWith-tried v i won old_seat.view.claimed worked.begins);
+      begins = subst (λ (w : View). BeginsWith w.claimed old_seat.view.claimed) (sym view)
+          (BeginsWith-tried v i won old_seat.view.claimed worked.begins);
       grown = omega arith;
     }

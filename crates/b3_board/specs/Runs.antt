@@ -1,11 +1,18 @@
 -- Workers at the spans of a plan, as contracts see them.
-use Rattle.std.specs.Prelude.{◌≡◌, ℕ, ◌+◌, ◌≤◌, List, [], length, map, nat_lt, slice_index}
+use Rattle.std.specs.Prelude.{◌≡◌, ℕ, ◌+◌, ◌≤◌, true, List, [], length, map, nat_lt, slice_index}
 use Rattle.std.specs.List.{sum_by}
+use Rattle.b3_core.specs.Tree.{top}
 use Rattle.b3_core.specs.declared.tree.Span.{Span}
 use Rattle.b3_board.specs.Claiming.{one_if, times}
+use Rattle.b3_board.specs.Plans.{Outline}
+use Rattle.b3_board.specs.Roots.{RootNode}
 use Rattle.b3_board.specs.Seats.{BeginsWith, HasSeenAll, Indexes, IsSeatOf, Seated}
 use Rattle.b3_board.specs.Shares.{Holding}
 use Rattle.b3_board.specs.declared.ended.Hand.{Hand}
+
+-- the root of the plan's input, kept by a board
+abbrev pub kept_root : Outline → RootNode
+kept_root outline = record { node = top outline.mode outline.first outline.input; kept = true }
 
 -- the chunks of span i, and past the end 0
 abbrev pub count_at : List Span → ℕ → ℕ
@@ -18,12 +25,14 @@ claimed_chunks spans list = sum_by (count_at spans) list
 -- a worker went through the first n spans: seat and share have their old parts, the seat has seen each of
 -- these indexes, its list begins with the old one, and the share grew by no more than the chunks of the
 -- spans that it newly claimed
-pub record HasWorked (spans : List Span) (n : ℕ) (old_seat : Seated) (old_share : Holding) (seat : Seated) (share : Holding) : Type 0 where
+pub record HasWorked (spans : List Span) (n : ℕ) (old_seat : Seated) (old_share : Holding) (seat : Seated) (share : Holding)
+    : Type 0 where
   pub seat_parts : seat.view.parts ≡ old_seat.view.parts
   pub share_parts : share.parts ≡ old_share.parts
   pub seen : HasSeenAll n seat
   pub begins : BeginsWith seat.view.claimed old_seat.view.claimed
-  pub grown : share.chunks + claimed_chunks spans old_seat.view.claimed ≤ old_share.chunks + claimed_chunks spans seat.view.claimed
+  pub grown : share.chunks + claimed_chunks spans old_seat.view.claimed
+      ≤ old_share.chunks + claimed_chunks spans seat.view.claimed
 
 -- each index below n stands in the list once, and no other
 abbrev pub HasEachOnce : ℕ → List ℕ → Type 0

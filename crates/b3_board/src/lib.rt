@@ -4,6 +4,9 @@
 //! A [`Plan`] cuts an input into spans. Each span is a [`Job`], whose work gives a [`Done`]; a [`Board`]
 //! takes what is done in any order, merges siblings, and has the root once no span is open. A [`Share`]
 //! counts the chunks that its owner deposited.
+//!
+//! [`hash_parallel`] hashes a plan by many workers, each in a thread: they take spans by [`Claims`], and
+//! deposit what they did on one board.
 #![tactic(auto)]
 
 mod board;

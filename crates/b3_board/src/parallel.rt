@@ -4,7 +4,7 @@ ghost use Rattle.std.specs.Prelude.{◌≡◌, ◌⊎◌, ℕ, ◌+◌, ◌<◌,
 ghost use Rattle.b3_core.specs.Tree.{chunks, top};
 ghost use Rattle.b3_board.specs.Faults.{IsWorkersFault};
 ghost use Rattle.b3_board.specs.Plans.{IsPlanOf};
-ghost use Rattle.b3_board.specs.Runs.{HasEachOnce, HasEnded, HasRun, IsNewHand, seat_parts, share_parts};
+ghost use Rattle.b3_board.specs.Runs.{HasEachOnce, HasEnded, HasRun, IsNewHand, kept_root, seat_parts, share_parts};
 ghost use Rattle.b3_board.specs.Seats.{HasSeenAll, IsSeatOf};
 ghost use Rattle.b3_board.specs.Spans.{chunks_in};
 ghost use Rattle.b3_board.specs.declared.fault.BoardFault.{BoardFault};
@@ -59,7 +59,7 @@ pub fn hash_parallel<'a, R: Threads + Wait + Sync, G: Gate + Sync>(
     workers: u32,
     gate: &G,
 ) -> Result<Report, BoardFault>
-    ensures root { IfOk result (λ report. report.root ≡ record { node = top plan.now.mode plan.now.first plan.now.input; kept = true }) }
+    ensures root { IfOk result (λ report. report.root ≡ kept_root plan.now) }
     ensures claimed { IfOk result (λ report. HasEachOnce (length plan.now.spans) report.claimed.items) }
     ensures shares { IfOk result (λ report. length report.shares.items ≡ workers) }
     ensures all { IfOk result (λ report. sum report.shares.items + report.swept ≡ chunks (length plan.now.input)) }
@@ -87,7 +87,7 @@ fn hash_on<'a, R: Threads + Wait + Sync, L: Planned + Send + Sync, G: Gate + Syn
     requires plan { IsPlanOf L.input L.mode L.first plan.now }
     requires some { 0 < workers }
     requires few { workers ≤ 64 }
-    ensures root { IfOk result (λ report. report.root ≡ record { node = top plan.now.mode plan.now.first plan.now.input; kept = true }) }
+    ensures root { IfOk result (λ report. report.root ≡ kept_root plan.now) }
     ensures claimed { IfOk result (λ report. HasEachOnce (length plan.now.spans) report.claimed.items) }
     ensures shares { IfOk result (λ report. length report.shares.items ≡ workers) }
     ensures all { IfOk result (λ report. sum report.shares.items + report.swept ≡ chunks (length plan.now.input)) }
@@ -169,8 +169,10 @@ fn deal<L: Planned>(
     ensures chunks { share.new.chunks ≡ share.old.chunks }
     ensures len { IfOk result (λ hands. vec_len hands ≡ count) }
     ensures each { IfOk result (λ hands. All (IsNewHand claims.now) hands.items) }
-    ensures seat_parts { IfOk result (λ hands. seat.new.view.parts + sum_by seat_parts hands.items ≡ seat.old.view.parts) }
-    ensures share_parts { IfOk result (λ hands. share.new.parts + sum_by share_parts hands.items ≡ share.old.parts) }
+    ensures seat_parts { IfOk result (λ hands.
+        seat.new.view.parts + sum_by seat_parts hands.items ≡ seat.old.view.parts) }
+    ensures share_parts { IfOk result (λ hands.
+        share.new.parts + sum_by share_parts hands.items ≡ share.old.parts) }
 {
     let mut hands = Vec::with_capacity(alloc, count)?;
     for _ in 0..count {
@@ -207,7 +209,9 @@ fn run<'a, R: Threads + Wait + Sync, L: Planned + Send + Sync, G: Gate + Sync>(
         hands,
         count,
         &|number, hand: &mut Hand<L>|
-            requires { IsPlanOf L.input L.mode L.first plan.now × (claims.now.count ≡ length plan.now.spans) × IsSeatOf claims.now hand.now.seat }
+            requires { IsPlanOf L.input L.mode L.first plan.now
+                × (claims.now.count ≡ length plan.now.spans)
+                × IsSeatOf claims.now hand.now.seat }
             ensures { HasRun claims.entry.now plan.entry.now.spans hand.entry.now hand.exit.now }
         {
             work(

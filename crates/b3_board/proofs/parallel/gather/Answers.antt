@@ -3,10 +3,11 @@ use Rattle.std.specs.List.{sum, sum_by}
 use Rattle.std.proofs.lemmas.List.Elements.{All-same, All-head, All-tail}
 use Rattle.std.proofs.lemmas.List.Sums.{sum_by-cons, sum_by_push}
 use Rattle.b3_board.specs.Claiming.{has}
-use Rattle.b3_board.specs.Runs.{HasEnded, claimed_chunks, seat_parts, share_parts}
+use Rattle.b3_board.specs.Runs.{HasEnded, seat_parts, share_parts}
 use Rattle.b3_board.specs.Shares.{Holding}
 use Rattle.b3_board.specs.declared.claim_rule.View.{View}
-use Rattle.b3_board.proofs.Hands.{claimed_chunks-append, claimed_chunks-le, has-united_right}
+use Rattle.b3_board.proofs.ClaimedIndexes.{has-united_right}
+use Rattle.b3_board.proofs.Hands.{claimed_chunks-joined, claimed_chunks-le}
 use Rattle.b3_board.proofs.parallel.gather.Goals as goal
 
 pub join-requires-in-loop-hand : goal.join-requires-in-loop-hand
@@ -16,9 +17,8 @@ join-requires-in-loop-hand g c =
     let hand = c.in-Some.hand in
     let left = All-same (HasEnded claims spans) _ _ (sym c.in-Some.ensures.steps.0) c.loop-hand.invariant.rest in
     let ended : HasEnded claims spans hand = All-head (HasEnded claims spans) _ _ left in
-    let joined : claimed_chunks spans c.join.new.seat.view.claimed ≡ claimed_chunks spans c.loop-hand.seat.view.claimed + claimed_chunks spans hand.seat.view.claimed =
-    ap (λ (v : View). claimed_chunks spans v.claimed) c.join.ensures.view
-    ∙ claimed_chunks-append spans c.loop-hand.seat.view.claimed hand.seat.view.claimed in
+    let seat = c.loop-hand.seat in
+    let joined = claimed_chunks-joined spans c.join.new.seat.view seat.view hand.seat.view c.join.ensures.view in
     let few = c.join.ensures.few in
     let count = c.requires.count in
     let small = c.requires.small in
@@ -49,9 +49,7 @@ loop-hand-preserved g c =
     let parts : c.join.new.seat.view.parts ≡ seat.view.parts + hand.seat.view.parts = ap (λ (v : View). v.parts) view in
     let pushed : sum c.push.new.self.items ≡ sum c.loop-hand.shares.items + c.chunks.result =
     ap sum c.push.ensures.items ∙ sum_by_push (λ x. x) c.loop-hand.shares.items c.chunks.result in
-    let joined : claimed_chunks spans c.join.new.seat.view.claimed ≡ claimed_chunks spans seat.view.claimed + claimed_chunks spans hand.seat.view.claimed =
-    ap (λ (v : View). claimed_chunks spans v.claimed) view
-    ∙ claimed_chunks-append spans seat.view.claimed hand.seat.view.claimed in
+    let joined = claimed_chunks-joined spans c.join.new.seat.view seat.view hand.seat.view view in
     let kept_len = kept.len in
     let kept_seats = kept.seat_parts in
     let kept_shares = kept.share_parts in

@@ -11,8 +11,10 @@ invariant-loop-hand g l = record {
   rest : All (HasEnded l.claims l.plan.spans) l.hand-iterator.rest.items;
   len : length l.shares.items + length l.hand-iterator.rest.items ≡ length l.fn.hands.items;
   seen : 0 < length l.shares.items → HasSeenAll (length l.plan.spans) l.seat;
-  seat_parts : l.seat.view.parts + sum_by seat_parts l.hand-iterator.rest.items ≡ l.fn.seat.view.parts + sum_by seat_parts l.fn.hands.items;
-  share_parts : l.share.parts + sum_by share_parts l.hand-iterator.rest.items ≡ l.fn.share.parts + sum_by share_parts l.fn.hands.items;
+  seat_parts : l.seat.view.parts + sum_by seat_parts l.hand-iterator.rest.items
+      ≡ l.fn.seat.view.parts + sum_by seat_parts l.fn.hands.items;
+  share_parts : l.share.parts + sum_by share_parts l.hand-iterator.rest.items
+      ≡ l.fn.share.parts + sum_by share_parts l.fn.hands.items;
   chunks : l.share.chunks ≡ sum l.shares.items;
   claimed : l.share.chunks ≤ claimed_chunks l.plan.spans l.seat.view.claimed;
 }
