@@ -25,8 +25,8 @@ claimed_chunks spans list = sum_by (count_at spans) list
 -- a worker went through the first n spans: seat and share have their old parts, the seat has seen each of
 -- these indexes, its list begins with the old one, and the share grew by no more than the chunks of the
 -- spans that it newly claimed
-pub record HasWorked (spans : List Span) (n : ℕ) (old_seat : Seated) (old_share : Holding) (seat : Seated) (share : Holding)
-    : Type 0 where
+pub record HasWorked (spans : List Span) (n : ℕ) (old_seat : Seated) (old_share : Holding) (seat : Seated)
+    (share : Holding) : Type 0 where
   pub seat_parts : seat.view.parts ≡ old_seat.view.parts
   pub share_parts : share.parts ≡ old_share.parts
   pub seen : HasSeenAll n seat

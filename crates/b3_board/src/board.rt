@@ -23,7 +23,8 @@ use std::alloc::Global;
 use std::marker::Model;
 use std::sync::ledger::Blank;
 
-/// A deposit that changed nothing, with what was to be deposited.
+/// A deposit that changed nothing, with what was to be deposited: refusals 6 and 7, the numbers behind those
+/// of `BoardFault`.
 #[derive(Drop)]
 pub enum Refused<'a> {
     /// The span is no open span of the board.
