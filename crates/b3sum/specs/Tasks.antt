@@ -3,7 +3,7 @@ use Rattle.std.specs.Prelude.{ℕ, min, ◌==◌, ◌^◌, if◌then◌else◌, 
 use Rattle.std.specs.Option.{option_map_or}
 use Rattle.b3_check.specs.declared.options.CheckOptions.{CheckOptions}
 use Rattle.b3_check.specs.declared.options.Form.{Form}
-use Rattle.b3_check.specs.declared.options.Form.TheVariants.{Named, Bare, Raw}
+use Rattle.b3_check.specs.declared.options.Form.TheVariants.{Named, Bare, Raw, Tagged}
 use Rattle.b3_check.specs.declared.options.KeyChoice.{KeyChoice}
 use Rattle.b3_check.specs.declared.options.KeyChoice.TheVariants.{Plain, Keyed, Derive}
 use Rattle.b3_check.specs.declared.options.SumOptions.{SumOptions}
@@ -16,7 +16,11 @@ key_of words = if words.keyed then Keyed else option_map_or Derive words.derive_
 
 -- raw output has no names in any case
 abbrev pub form_of : Words → Form
-form_of words = if words.raw then Raw else if words.no_names then Bare else Named
+form_of words =
+    if words.raw then Raw
+    else if words.no_names then Bare
+    else if words.tag then Tagged
+    else Named
 
 -- 4 where no number is given, and at 0; 64 above that
 abbrev pub workers_of : Option ℕ → ℕ
@@ -26,7 +30,7 @@ workers_of (Some n) = if n == 0 then 4 else min n 64
 abbrev pub sum_options : Words → SumOptions
 sum_options words = record {
   key = key_of words;
-  seek = 0;
+  seek = unwrap_or words.seek 0;
   length = unwrap_or words.length 32;
   form = form_of words;
   workers = workers_of words.num_threads;

@@ -9,8 +9,10 @@ Without FILE, or where FILE is -, standard input is read; it can be read once.
 
 Examples:
   b3sum *.tar > SUMS          write a list of digests
-  b3sum --check SUMS          check the files that a list names
+  b3sum --tag *.tar > SUMS    write it in tagged lines
+  b3sum --check SUMS          check the files that a list names, in lines of both forms
   b3sum --keyed FILE < KEY    write a digest keyed by the 32 bytes of KEY
+  b3sum --seek 32 FILE        write the 32 bytes of output behind the digest
 
 The status is 0, or 1 where a file cannot be read, a digest differs, a line is
 malformed or the run is cut short, or 2 where the words are not taken.";
@@ -29,8 +31,10 @@ pub fn command<'a>(alloc: Global) -> Result<Command<'a>, AllocError> {
         .arg(keyed(alloc))?
         .arg(derive_key(alloc))?
         .arg(length(alloc))?
+        .arg(seek(alloc))?
         .arg(raw(alloc))?
         .arg(no_names(alloc))?
+        .arg(tag(alloc))?
         .arg(num_threads(alloc))?
         .arg(no_mmap(alloc))?
         .arg(files)
@@ -77,6 +81,14 @@ fn length<'a>(alloc: Global) -> Arg<'a> {
         .help("Write N bytes of output, 0 to 1048576; without it 32")
 }
 
+fn seek<'a>(alloc: Global) -> Arg<'a> {
+    Arg::new(alloc, "seek")
+        .long("seek")
+        .value_name("N")
+        .value_parser(value_parser!(u64))
+        .help("Write the output from its byte N on; without it from 0")
+}
+
 fn raw<'a>(alloc: Global) -> Arg<'a> {
     flag(
         alloc,
@@ -87,6 +99,14 @@ fn raw<'a>(alloc: Global) -> Arg<'a> {
 
 fn no_names<'a>(alloc: Global) -> Arg<'a> {
     flag(alloc, "no-names", "Write the digests without names")
+}
+
+fn tag<'a>(alloc: Global) -> Arg<'a> {
+    flag(
+        alloc,
+        "tag",
+        "Write each line as BLAKE3 (FILE) = DIGEST; --check reads both forms",
+    )
 }
 
 fn num_threads<'a>(alloc: Global) -> Arg<'a> {

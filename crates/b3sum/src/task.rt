@@ -3,7 +3,7 @@ ghost use Rattle.std.specs.List.{list_any};
 ghost use Rattle.std.specs.Option.{option_map};
 ghost use Rattle.b3sum.specs.Tasks.{check_options, form_of, key_of, sum_options, task_for, workers_of};
 ghost use Rattle.b3sum.specs.declared.task.Task.TheVariants.{Sum};
-ghost use Rattle.b3sum.specs.Usages.{excluded_by_check, first_given, hashes_input, is_input, refusal_for, refusal_of};
+ghost use Rattle.b3sum.specs.Usages.{excluded_by_check, excluded_by_tag, first_given, hashes_input, is_input, refusal_for, refusal_for_output, refusal_of, seeks_past_end};
 
 use crate::usage::Usage;
 use crate::words::Words;
@@ -11,6 +11,9 @@ use b3_check::{CheckOptions, Form, KeyChoice, SumOptions};
 
 /// The number of output bytes where no word says another.
 const DEFAULT_LENGTH: u32 = 32;
+
+/// The first byte of the output that is written where no word says another.
+const DEFAULT_SEEK: u64 = 0;
 
 /// The number of threads where no word says another.
 const DEFAULT_THREADS: u32 = 4;
@@ -69,6 +72,21 @@ fn refusal(words: &Words) -> Option<Usage>
     if words.keyed && hashes_input(words) {
         return Some(Usage::KeyNeedsFiles);
     }
+    refusal_of_output(words)
+}
+
+// The first refusal that holds of what is to be written.
+fn refusal_of_output(words: &Words) -> Option<Usage>
+    ensures { option_map refusal_of result ≡ refusal_for_output words.now }
+{
+    if words.tag {
+        if let Some(option) = excluded_by_tag(words) {
+            return Some(Usage::TagExcludes(option));
+        }
+    }
+    if seeks_past_end(words) {
+        return Some(Usage::SeekPastEnd);
+    }
     None
 }
 
@@ -82,13 +100,42 @@ fn excluded_by_check(words: &Words) -> Option<&'static str>
         Some("--derive-key")
     } else if words.length.is_some() {
         Some("--length")
+    } else if words.seek.is_some() {
+        Some("--seek")
     } else if words.raw {
+        Some("--raw")
+    } else if words.no_names {
+        Some("--no-names")
+    } else if words.tag {
+        Some("--tag")
+    } else {
+        None
+    }
+}
+
+// The first option that is given and goes with no tagged lines.
+fn excluded_by_tag(words: &Words) -> Option<&'static str>
+    ensures { option_map (λ option. option.now) result ≡ first_given (excluded_by_tag words.now) }
+{
+    if words.raw {
         Some("--raw")
     } else if words.no_names {
         Some("--no-names")
     } else {
         None
     }
+}
+
+// Whether bytes are asked for that lie behind the end of the output.
+fn seeks_past_end(words: &Words) -> bool
+    ensures { result ≡ seeks_past_end words.now }
+{
+    let length = words.length.unwrap_or(DEFAULT_LENGTH);
+    words
+        .seek
+        .unwrap_or(DEFAULT_SEEK)
+        .checked_add(u64::from(length))
+        .is_none()
 }
 
 // Whether standard input is to be hashed.
@@ -125,6 +172,7 @@ fn sum_task(words: Words) -> Task
         keyed,
         derive_key,
         length,
+        seek,
         files,
         ..
     } = words;
@@ -135,7 +183,7 @@ fn sum_task(words: Words) -> Task
     };
     let options = SumOptions {
         key,
-        seek: 0,
+        seek: seek.unwrap_or(DEFAULT_SEEK),
         length: length.unwrap_or(DEFAULT_LENGTH),
         form,
         workers,
@@ -152,6 +200,8 @@ fn form(words: &Words) -> Form
         Form::Raw
     } else if words.no_names {
         Form::Bare
+    } else if words.tag {
+        Form::Tagged
     } else {
         Form::Named
     }

@@ -13,6 +13,10 @@ pub enum Usage {
     RawOne,
     /// A key where standard input is to be hashed too.
     KeyNeedsFiles,
+    /// An option that goes with no tagged lines.
+    TagExcludes(&'static str),
+    /// Bytes behind the end of the output.
+    SeekPastEnd,
 }
 
 impl Usage {
@@ -28,6 +32,11 @@ impl Usage {
             Usage::QuietAlone => ("b3sum: --quiet needs --check", ""),
             Usage::RawOne => ("b3sum: --raw takes one input", ""),
             Usage::KeyNeedsFiles => ("b3sum: --keyed needs files", ""),
+            Usage::TagExcludes(option) => ("b3sum: --tag cannot be used with ", option),
+            Usage::SeekPastEnd => {
+                let text = "b3sum: --seek and --length pass the end of the output";
+                (text, "")
+            }
         }
     }
 }

@@ -24,10 +24,14 @@ pub struct Words {
     pub derive_key: Option<String>,
     /// How many bytes of the output are written.
     pub length: Option<u32>,
+    /// The first byte of the output that is written.
+    pub seek: Option<u64>,
     /// The bytes of the output are written, and no digits.
     pub raw: bool,
     /// Digests are written without names.
     pub no_names: bool,
+    /// Digests are written in tagged lines.
+    pub tag: bool,
     /// Nothing is said of files that are OK.
     pub quiet: bool,
     /// How many threads hash.
@@ -57,8 +61,10 @@ impl Words {
             length: matches
                 .get_one::<u32>("length")
                 .map(|length| length.min(MAX_OUTPUT_LEN)),
+            seek: matches.get_one::<u64>("seek"),
             raw: matches.get_flag("raw"),
             no_names: matches.get_flag("no-names"),
+            tag: matches.get_flag("tag"),
             quiet: matches.get_flag("quiet"),
             num_threads: matches.get_one::<u16>("num-threads"),
             files,

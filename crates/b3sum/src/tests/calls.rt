@@ -77,6 +77,62 @@ fn standard_input_has_its_line(rt: HostRuntime) -> Result<(), AllocError> {
 }
 
 #[test]
+fn tagged_lines(rt: HostRuntime) -> Result<(), AllocError> {
+    let line = b"BLAKE3 (-) = af1349b9f5f9a1a6a0404dea36dcc9499bcb25c9adc112b7cc9a93cae41f3262\n";
+    assert_piped(&rt, b"", &["--tag"], line, b"", 0)?;
+    let alloc = rt.alloc();
+    let mut shelf = MemoryShelf::new(alloc);
+    shelf.put("a) = b", b"")?;
+    let line =
+        b"BLAKE3 (a) = b) = af1349b9f5f9a1a6a0404dea36dcc9499bcb25c9adc112b7cc9a93cae41f3262\n";
+    assert_call(&rt, alloc, &mut shelf, &["--tag", "a) = b"], line, b"", 0)?;
+    shelf.put("l", line)?;
+    assert_call(
+        &rt,
+        alloc,
+        &mut shelf,
+        &["-c", "l"],
+        b"a) = b: OK\n",
+        b"",
+        0,
+    )
+}
+
+#[test]
+fn output_from_a_place_on(rt: HostRuntime) -> Result<(), AllocError> {
+    let rest = b"1349b9f5f9a1a6a0404dea36dcc9499bcb25c9adc112b7cc9a93cae41f3262  -\n";
+    assert_piped(&rt, b"", &["--seek", "1", "--length", "31"], rest, b"", 0)?;
+    assert_piped(
+        &rt,
+        b"",
+        &["--raw", "--seek", "2", "-l", "2"],
+        b"\x49\xb9",
+        b"",
+        0,
+    )?;
+    assert_piped(
+        &rt,
+        b"",
+        &["--tag", "--seek", "31", "-l", "1"],
+        b"BLAKE3 (-) = 62\n",
+        b"",
+        0,
+    )?;
+    let last = "18446744073709551615";
+    assert_piped(
+        &rt,
+        b"",
+        &["--seek", last, "--length", "0"],
+        b"  -\n",
+        b"",
+        0,
+    )?;
+    let past = b"b3sum: --seek and --length pass the end of the output\n";
+    assert_piped(&rt, b"", &["--seek", last, "--length", "1"], b"", past, 2)?;
+    assert_piped(&rt, b"", &["--seek", "18446744073709551584"], b"", past, 2)
+}
+
+#[test]
 fn output_without_names(rt: HostRuntime) -> Result<(), AllocError> {
     let digits = b"af1349b9f5f9a1a6a0404dea36dcc9499bcb25c9adc112b7cc9a93cae41f3262\n";
     assert_piped(&rt, b"", &["--raw", "-l", "4"], b"\xaf\x13\x49\xb9", b"", 0)?;
@@ -165,7 +221,7 @@ fn a_list_is_checked_and_good_lines_passed_over(rt: HostRuntime) -> Result<(), A
 
 #[test]
 fn words_that_ask_for_nothing_that_can_be_done(rt: HostRuntime) -> Result<(), AllocError> {
-    let rows: [(&[&str], &str); 13] = [
+    let rows: [(&[&str], &str); 20] = [
         (
             &["--check", "--raw", "--keyed"],
             "b3sum: --check cannot be used with --keyed\n",
@@ -203,6 +259,34 @@ fn words_that_ask_for_nothing_that_can_be_done(rt: HostRuntime) -> Result<(), Al
         (
             &["--raw", "--keyed", "-", "e"],
             "b3sum: --raw takes one input\n",
+        ),
+        (
+            &["--check", "--tag", "--seek", "1"],
+            "b3sum: --check cannot be used with --seek\n",
+        ),
+        (
+            &["--check", "--seek", "0", "-l", "32"],
+            "b3sum: --check cannot be used with --length\n",
+        ),
+        (
+            &["--check", "--tag", "--no-names"],
+            "b3sum: --check cannot be used with --no-names\n",
+        ),
+        (
+            &["--check", "--tag"],
+            "b3sum: --check cannot be used with --tag\n",
+        ),
+        (
+            &["--tag", "--raw", "--no-names"],
+            "b3sum: --tag cannot be used with --raw\n",
+        ),
+        (
+            &["--tag", "--no-names", "--seek", "18446744073709551615"],
+            "b3sum: --tag cannot be used with --no-names\n",
+        ),
+        (
+            &["--keyed", "--tag", "--raw"],
+            "b3sum: --keyed needs files\n",
         ),
         (&["--keyed"], "b3sum: --keyed needs files\n"),
         (&["--keyed", "e", "-"], "b3sum: --keyed needs files\n"),

@@ -31,8 +31,9 @@ fn assert_refused(rt: &impl Abort, alloc: Global, words: &[&str], part: &str) {
 fn no_words(rt: HostRuntime) -> Result<(), Stop> {
     let words = read(rt.alloc(), &[])?;
     assert!(rt; !words.check && !words.keyed && !words.raw && !words.no_names && !words.quiet);
-    assert!(rt; words.derive_key.is_none());
+    assert!(rt; !words.tag && words.derive_key.is_none());
     assert_eq!(rt; words.length, None);
+    assert_eq!(rt; words.seek, None);
     assert_eq!(rt; words.num_threads, None);
     assert!(rt; words.files.is_empty());
     Ok(())
@@ -50,8 +51,11 @@ fn all_words(rt: HostRuntime) -> Result<(), Stop> {
             "a context",
             "-l",
             "0",
+            "--seek",
+            "7",
             "--raw",
             "--no-names",
+            "--tag",
             "--quiet",
             "--num-threads",
             "0",
@@ -62,6 +66,8 @@ fn all_words(rt: HostRuntime) -> Result<(), Stop> {
         ],
     )?;
     assert!(rt; words.check && words.keyed && words.raw && words.no_names && words.quiet);
+    assert!(rt; words.tag);
+    assert_eq!(rt; words.seek, Some(7));
     assert!(rt; words.derive_key == Some(String::from_str(rt.alloc(), "a context")?));
     assert_eq!(rt; words.length, Some(0));
     assert_eq!(rt; words.num_threads, Some(0));
@@ -81,6 +87,16 @@ fn the_ends_of_each_range(rt: HostRuntime) -> Result<(), Stop> {
     assert_eq!(rt;
         read(alloc, &["--num-threads=65535"])?.num_threads,
         Some(65_535)
+    );
+    assert_eq!(rt;
+        read(alloc, &["--seek=18446744073709551615"])?.seek,
+        Some(u64::MAX)
+    );
+    assert_refused(
+        &rt,
+        alloc,
+        &["--seek", "18446744073709551616"],
+        "invalid value '18446744073709551616' for '--seek <N>'",
     );
     assert_refused(
         &rt,

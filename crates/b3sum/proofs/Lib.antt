@@ -1,0 +1,2 @@
+-- what words that are not refused say
+pub mod Settled
