@@ -7,6 +7,7 @@ mod claims;
 mod memory;
 mod plans;
 mod random;
+mod workers;
 
 use super::*;
 use b3_core::{Mode, Node, Span, top};

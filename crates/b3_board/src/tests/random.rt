@@ -11,13 +11,13 @@ use std::test::Fail;
 
 // A row of numbers that look like chance.
 #[derive(Drop)]
-struct Chance {
-    state: u64,
+pub struct Chance {
+    pub state: u64,
 }
 
 impl Chance {
     // The next number below `bound`.
-    fn below(&mut self, bound: u64) -> u64
+    pub fn below(&mut self, bound: u64) -> u64
         requires { 0 < bound }
         ensures { result < bound }
     {
@@ -30,7 +30,7 @@ impl Chance {
 }
 
 // Cuts a subtree into smaller ones, as chance has it: one in `whole` is not cut further.
-fn cut_at_random(
+pub fn cut_at_random(
     rt: &impl Abort,
     alloc: Global,
     chance: &mut Chance,
