@@ -86,11 +86,13 @@ fn tagged_lines(rt: HostRuntime) -> Result<(), AllocError> {
     let line =
         b"BLAKE3 (a) = b) = af1349b9f5f9a1a6a0404dea36dcc9499bcb25c9adc112b7cc9a93cae41f3262\n";
     assert_call(&rt, alloc, &mut shelf, &["--tag", "a) = b"], line, b"", 0)?;
-    shelf.put("l", line)?;
+    let mut listed = MemoryShelf::new(alloc);
+    listed.put("a) = b", b"")?;
+    listed.put("l", line)?;
     assert_call(
         &rt,
         alloc,
-        &mut shelf,
+        &mut listed,
         &["-c", "l"],
         b"a) = b: OK\n",
         b"",
