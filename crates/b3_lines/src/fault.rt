@@ -15,11 +15,11 @@ pub enum LineFault {
     Empty = 1,
     /// The line is not UTF-8.
     NotText = 2,
-    /// The line has fewer than 66 bytes behind its mark.
+    /// Behind its mark a plain line has fewer than 66 bytes, or a tagged one fewer than 76.
     Short = 3,
-    /// One of the first 64 bytes is no hex digit.
+    /// One of the 64 bytes for the digits is no hex digit: the first of a plain line, the last of a tagged one.
     NotDigits = 4,
-    /// The digits are not followed by two spaces.
+    /// The digits of a plain line are not followed by two spaces, or those of a tagged one not preceded by `) = `.
     NoSpaces = 5,
     /// The name is empty.
     NoName = 6,
