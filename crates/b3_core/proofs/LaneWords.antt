@@ -1,31 +1,18 @@
 -- What a lane of vectors holds: place by place, after a vector was written, and after a half of G.
-use Rattle.std.proofs.Common.{◌≡◌, ℕ, ◌-◌, ◌<◌, ◌%◌, ◌/◌, ◌*◌, ◌^◌, List, [], ◌∷◌, length, map, get_or, set, refl, sym}
-use Rattle.std.proofs.Common.{ap, ◌∙◌, ◌⊎◌, inl, inr, ◌≢◌, arith, bit_xor, bit_or, replicate, w32}
+use Rattle.std.proofs.Common.{◌≡◌, ℕ, ◌<◌, List, [], ◌∷◌, length, map, get_or, set, refl, sym, ap, ◌∙◌, ◌⊎◌, inl, inr}
+use Rattle.std.proofs.Common.{◌≢◌, arith, bit_xor, w32}
 use Rattle.std.specs.Int.{rotate_right}
 use Rattle.std.specs.List.{range_with_len}
 use Rattle.std.specs.Simd.Lanes.{zip2}
 use Rattle.std.proofs.Math.ListN.{get_or-map as get_or-of_map}
 use Rattle.std.proofs.lemmas.Bool.{cases_eq}
 use Rattle.std.proofs.lemmas.List.{map-set, length-map, length-set, get_or-set_same, get_or-set_other, get_or-map}
-use Rattle.std.proofs.lemmas.Simd.{length-zip2, get_or-zip2, zip2_splat, zip2_of_maps}
+use Rattle.std.proofs.lemmas.Simd.{length-zip2, get_or-zip2}
 use Rattle.std.proofs.lemmas.List.FromFn.{get_or-map-range_with_len, length-map-range_with_len}
 use Rattle.b3_core.specs.Words.{add32}
 use Rattle.b3_core.specs.Compression.{half_g}
 use Rattle.b3_core.specs.Lanes.{AreWide, lane}
 use Rattle.b3_core.proofs.Lists.{elements, map-below}
-
--- two shifts turn each lane
-pub rotated-lanes : (x : List ℕ) (r : ℕ) → 0 < r → r < 32 → length x ≡ 8
-    → zip2 bit_or (zip2 (λ n k. n / 2 ^ k) x (replicate 8 r))
-    (zip2 (λ n k. (n * 2 ^ k) % 2 ^ 32) x (replicate 8 (32 - r)))
-    ≡ map (λ n. rotate_right w32 n r) x
-rotated-lanes x r some below wide =
-    let place : r % 32 ≡ r = omega arith in
-    let back : (32 - r % 32) % 32 ≡ 32 - r = omega arith in
-    zip2_of_maps bit_or (λ n. n / 2 ^ r) (λ n. (n * 2 ^ (32 - r)) % 2 ^ 32) x
-    (zip2_splat (λ n k. n / 2 ^ k) x 8 r wide)
-    (zip2_splat (λ n k. (n * 2 ^ k) % 2 ^ 32) x 8 (32 - r) wide)
-    ∙ (λ i. map (λ n. bit_or (n / 2 ^ sym place i) ((n * 2 ^ sym back i) % 2 ^ 32)) x)
 
 -- place i of a lane
 pub lane-at : (j i : ℕ) (v : List (List ℕ)) → get_or (lane j v) i 0 ≡ get_or (get_or v i []) j 0

@@ -137,7 +137,8 @@ fn counters_across_2_to_the_32(rt: HostRuntime) -> Result<(), Fail> {
 fn eight_output_blocks(rt: HostRuntime) {
     let node = chunk_node(&Mode::keyed(KEY), 3, b"abc");
     for first in [0, 1, FIRST, u64::MAX - 7] {
-        let blocks = node.blocks8(first);
+        let mut blocks = [0; 512];
+        node.blocks8(first, &mut blocks);
         for j in 0..8usize {
             assert_eq!(rt;
                 blocks[64 * j..64 * j + 64],

@@ -12,7 +12,7 @@ use Rattle.b3_core.proofs.nodes.Node.blocks8.Goals as goal
 
 pub lanes-init : goal.lanes-init
 unfolding output_bytes
-lanes-init c = (refl, refl)
+lanes-init c = (c.requires.len, refl)
 
 pub lanes-preserved : goal.lanes-preserved
 unfolding output_block compress
@@ -34,9 +34,9 @@ lanes-preserved c =
     let at : 64 * (first + j) ≡ 64 * first + 64 * j = omega arith in
     let next : 64 * j + 64 ≡ 64 * (j + 1) = omega arith in (
       search (rules, overwrites),
-      subst (λ n. take n (put_mid (64 * j) (64 * j + 64 - 64 * j) c.lanes.bytes c.copy_from_slice.new.self)
+      subst (λ n. take n (put_mid (64 * j) (64 * j + 64 - 64 * j) c.lanes.out c.copy_from_slice.new.self)
           ≡ output_bytes node (64 * first) n) next
-          (output_bytes-next node (64 * first) (64 * j) (64 * j + 64 - 64 * j) 64 c.lanes.bytes
+          (output_bytes-next node (64 * first) (64 * j) (64 * j + 64 - 64 * j) 64 c.lanes.out
           c.copy_from_slice.new.self (omega (arith, c.lanes.invariant.0)) c.lanes.invariant.1
           (c.copy_from_slice.ensures.after ∙ block ∙ output_block-whole node (first + j)
           ∙ ap (λ from. output_bytes node from 64) at)),
@@ -45,6 +45,6 @@ lanes-preserved c =
 pub returns : goal.returns
 returns c =
     let all : 64 * c.lanes.j ≡ 512 = omega arith in
-    sym (take_all (64 * c.lanes.j) c.lanes.bytes (omega (arith, c.lanes.invariant.0)))
+    sym (take_all (64 * c.lanes.j) c.lanes.out (omega (arith, c.lanes.invariant.0)))
     ∙ c.lanes.invariant.1
     ∙ ap (output_bytes c.args.self.now (64 * c.args.first)) all
