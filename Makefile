@@ -6,7 +6,7 @@
 # `make faults` runs it against full devices, closed streams, broken lists, odd names and files that change.
 # `make refused` refuses each growth of memory in turn.
 # `make soak` runs it for two minutes on random trees and lists, with outputs, memory and descriptors that fail it.
-# `make bench` times it and the installed b3sum, and the code on lanes beside the word code.
+# `make bench` times it and the installed b3sum, the code on lanes beside the word code, and runs of workers.
 # `make audit` compares docs/AUDIT.md with the files that it names; `make cheat EDIT=crates/NAME/must-fail/WRONG.edit`
 # tries one wrong body, which the prover must refuse.
 
@@ -55,6 +55,7 @@ soak: b3sum
 bench: b3sum
 	tools/bench
 	tools/lanes $(CPU)
+	tools/workers $(CPU)
 
 audit:
 	tools/audit

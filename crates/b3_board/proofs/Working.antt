@@ -5,9 +5,9 @@ use mathlib.Core.Logic.{dite}
 use native.Mathlib.Decide.{ℕ_discrete}
 use Rattle.b3_core.specs.declared.tree.Span.{Span}
 use Rattle.b3_board.specs.Claiming.{has, tried}
-use Rattle.b3_board.specs.Runs.{HasWorked, claimed_chunks, count_at}
 use Rattle.b3_board.specs.Seats.{BeginsWith, Seated}
 use Rattle.b3_board.specs.Shares.{Holding}
+use Rattle.b3_board.specs.WorkerRuns.{HasWorked, claimed_chunks, count_at}
 use Rattle.b3_board.specs.declared.claim_rule.View.{View}
 use Rattle.b3_board.proofs.ClaimedIndexes.{has-set_kept, has-set_same}
 

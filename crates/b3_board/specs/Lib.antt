@@ -3,8 +3,8 @@ pub mod Plans
 pub mod Faults
 pub mod Pictures
 pub mod Shares
-pub mod Roots
+pub mod RootNodes
 pub mod Entries
 pub mod Claiming
 pub mod Seats
-pub mod Runs
+pub mod WorkerRuns

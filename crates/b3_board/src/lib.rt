@@ -36,7 +36,7 @@ pub use ended::Ended;
 pub use fault::BoardFault;
 pub use gate::{Gate, OpenGate};
 pub use jobs::{Done, Job};
-pub use parallel::{Report, hash_parallel};
+pub use parallel::{CHUNKS_A_THREAD, Report, hash_parallel};
 pub use plan::Plan;
 pub use planned::{OwnDone, OwnJob, Planned};
 pub use root::Root;

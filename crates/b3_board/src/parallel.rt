@@ -4,9 +4,9 @@ ghost use Rattle.std.specs.Prelude.{◌≡◌, ◌⊎◌, ℕ, ◌+◌, ◌<◌,
 ghost use Rattle.b3_core.specs.Tree.{chunks, top};
 ghost use Rattle.b3_board.specs.Faults.{IsWorkersFault};
 ghost use Rattle.b3_board.specs.Plans.{IsPlanOf};
-ghost use Rattle.b3_board.specs.Runs.{HasEachOnce, HasEnded, HasRun, IsNewHand, kept_root, seat_parts, share_parts};
 ghost use Rattle.b3_board.specs.Seats.{HasSeenAll, IsSeatOf};
 ghost use Rattle.b3_board.specs.Spans.{chunks_in};
+ghost use Rattle.b3_board.specs.WorkerRuns.{HasEachOnce, HasEnded, HasRun, IsNewHand, kept_root, seat_parts, share_parts};
 ghost use Rattle.b3_board.specs.declared.fault.BoardFault.{BoardFault};
 ghost use Rattle.b3_board.specs.declared.fault.BoardFault.TheVariants.{Memory};
 
@@ -30,8 +30,8 @@ use std::thread::Threads;
 
 const MAX_WORKERS: u32 = 64;
 
-// What makes one more thread worth its start.
-const CHUNKS_A_THREAD: u64 = 128;
+/// What makes a further thread worth its start: so many chunks of input.
+pub const CHUNKS_A_THREAD: u64 = 128;
 
 /// What a run of workers gave.
 #[derive(Drop)]

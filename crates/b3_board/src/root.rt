@@ -15,7 +15,7 @@ pub struct Root {
 }
 
 impl Model for Root {
-    ghost use Rattle.b3_board.specs.Roots.{RootNode};
+    ghost use Rattle.b3_board.specs.RootNodes.{RootNode};
 
     ghost Value = { RootNode };
 

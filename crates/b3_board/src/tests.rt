@@ -4,6 +4,7 @@ ghost use Rattle.std.specs.Prelude.{◌≡◌, IfOk, vec_len};
 ghost use Rattle.b3_board.specs.Plans.{IsPlanOf};
 
 mod claims;
+mod hostile;
 mod memory;
 mod plans;
 mod random;
@@ -405,4 +406,44 @@ fn shares_split_and_joined(rt: HostRuntime) -> Result<(), Fail> {
     let input = pattern(rt.alloc(), 5 * 1024)?;
     let plan = Plan::new(rt.alloc(), &input, Mode::hash(), 1)?;
     shares(&rt, rt.alloc(), &plan)
+}
+
+// A share that is dropped takes its part and its chunks with it; the board has them all the same.
+fn dropped_on<'a, L: Planned>(
+    rt: &impl Abort,
+    alloc: Global,
+    plan: &Plan<'a>,
+    blank: Blank,
+) -> Result<(), Fail>
+    requires name { blank.name ≡ L.name }
+    requires parts { blank.parts ≡ L.parts }
+    requires whole { L.parts ≡ 128 }
+    requires own { IsPlanOf L.input L.mode L.first plan.now }
+{
+    let (mut board, mut left) = Board::<'a, L>::new(alloc, plan, blank)?;
+    let mut dropped = left.split();
+    let own = plan.own_job::<L>(0).expect(rt, "a job").work();
+    assert!(rt; board.deposit_own(own, &mut dropped).is_ok());
+    drop(dropped);
+    assert_eq!(rt; board.sweep(&mut left), 4);
+    assert_eq!(rt;
+        (left.parts(), left.chunks(), board.deposited()),
+        (127, 4, 5)
+    );
+    assert_eq!(rt;
+        board.root().expect(rt, "a root").node(),
+        root_of(rt, plan.input())
+    );
+    Ok(())
+}
+
+fn dropped(rt: &impl Abort, alloc: Global, plan: &Plan) -> Result<(), Fail> {
+    dropped_on::<Brand>(rt, alloc, plan, Blank::new(128))
+}
+
+#[test]
+fn a_share_that_is_dropped(rt: HostRuntime) -> Result<(), Fail> {
+    let input = pattern(rt.alloc(), 5 * 1024)?;
+    let plan = Plan::new(rt.alloc(), &input, Mode::hash(), 1)?;
+    dropped(&rt, rt.alloc(), &plan)
 }

@@ -2,8 +2,8 @@
 
 ghost use Rattle.std.specs.Prelude.{◌≡◌, ℕ, ◌+◌, ◌<◌, ◌≤◌, length};
 ghost use Rattle.b3_board.specs.Plans.{IsPlanOf};
-ghost use Rattle.b3_board.specs.Runs.{HasWorked, count_at};
 ghost use Rattle.b3_board.specs.Seats.{IsSeatOf};
+ghost use Rattle.b3_board.specs.WorkerRuns.{HasWorked, count_at};
 
 use crate::board::Board;
 use crate::claims::{Claims, Seat};

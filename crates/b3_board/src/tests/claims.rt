@@ -3,6 +3,7 @@
 ghost use Rattle.std.specs.Prelude.{◌≡◌, ◌<◌, ◌≤◌};
 ghost use Rattle.b3_board.specs.Seats.{HasSeenAll, IsSeatOf};
 
+use super::memory::last_growth;
 use crate::{BoardFault, Claims, Gate, OpenGate, Seat};
 use arrayvec::ArrayVec;
 use std::alloc::Global;
@@ -33,6 +34,18 @@ fn three_seats_claim_in_turn(rt: HostRuntime) -> Result<(), Fail> {
         (128, [1u32, 2, 0].as_slice())
     );
     assert_eq!(&rt; claims.close(first).as_slice(), [1u32, 2, 0].as_slice());
+    Ok(())
+}
+
+#[test]
+fn two_seats_claim_in_turn(rt: HostRuntime) -> Result<(), Fail> {
+    let (claims, mut first) = Claims::new(rt.alloc(), 3)?;
+    let mut second = claims.split(&mut first);
+    assert!(&rt; claims.try_claim(&mut first, 0) && !claims.try_claim(&mut second, 0));
+    assert!(&rt; claims.try_claim(&mut second, 1) && !claims.try_claim(&mut first, 1));
+    assert!(&rt; claims.try_claim(&mut first, 2) && !claims.try_claim(&mut second, 2));
+    claims.join(&mut first, second);
+    assert_eq!(&rt; claims.close(first).as_slice(), [0u32, 2, 1].as_slice());
     Ok(())
 }
 
@@ -103,6 +116,10 @@ fn a_refused_growth_makes_no_claims(rt: HostRuntime) {
         Ok((_claims, first)) => assert_eq!(&rt; first.parts(), 128),
         Err(fault) => assert_eq!(&rt; fault, BoardFault::Memory),
     }
+    assert!(&rt;
+        last_growth(rt.alloc()).is_ok(),
+        "refused behind the last call"
+    );
 }
 
 // A gate that does not say whether it holds a worker.

@@ -71,14 +71,24 @@ fn grains_that_are_taken_and_refused(rt: HostRuntime) -> Result<(), Fail> {
 }
 
 #[test]
-fn default_grains(rt: HostRuntime) {
-    for (n, grain) in [
-        (1u64, 16u64),
-        (1 << 14, 16),
-        ((1 << 14) + 1, 32),
-        (1 << 20, 1024),
+fn default_grains(rt: HostRuntime) -> Result<(), Fail> {
+    for (n, grain, spans) in [
+        (1u64, 16u64, 1u64),
+        (1 << 14, 16, 1024),
+        ((1 << 14) + 1, 32, 513),
+        (1 << 20, 1024, 1024),
     ] {
         assert!(&rt; 1 <= n && n <= 1 << 20);
-        assert_eq!(&rt; default_grain(n), grain, "{n} chunks");
+        let told = default_grain(n);
+        assert_eq!(&rt; (told, n.div_ceil(grain)), (grain, spans), "{n} chunks");
     }
+    let input = vec![in rt.alloc(); 0; (1 << 24) + 1]?;
+    let plan = Plan::new(
+        rt.alloc(),
+        &input,
+        Mode::hash(),
+        default_grain((1 << 14) + 1),
+    )?;
+    assert_eq!(&rt; (plan.len(), plan.span(512)), (513, Some(span(1 << 14, 1))));
+    Ok(())
 }

@@ -3,6 +3,7 @@
 ghost use Rattle.std.specs.Prelude.{◌≡◌};
 ghost use Rattle.b3_board.specs.Plans.{IsPlanOf};
 
+use super::memory::last_growth;
 use super::random::{Chance, cut_at_random};
 use super::{pattern, root_of};
 use crate::{
@@ -19,11 +20,14 @@ use std::sync::{Mutex, Wait};
 use std::test::Fail;
 use std::thread;
 
-// Holds the first call until another one has come, for at most a million turns.
+// Holds the first call until another one has come, for at most a million turns. It keeps the sums of the workers' and
+// the spans' numbers that it is told.
 #[derive(Drop)]
 struct TwoAtOnce {
     calls: AtomicU64,
     met: AtomicU64,
+    workers: AtomicU64,
+    spans: AtomicU64,
 }
 
 impl TwoAtOnce {
@@ -31,12 +35,16 @@ impl TwoAtOnce {
         TwoAtOnce {
             calls: AtomicU64::new(0),
             met: AtomicU64::new(0),
+            workers: AtomicU64::new(0),
+            spans: AtomicU64::new(0),
         }
     }
 }
 
 impl Gate for TwoAtOnce {
-    fn pass(&self, _worker: usize, _span: usize) {
+    fn pass(&self, worker: usize, span: usize) {
+        self.workers.fetch_add(worker as u64, Ordering::SeqCst);
+        self.spans.fetch_add(span as u64, Ordering::SeqCst);
         if self.calls.fetch_add(1, Ordering::SeqCst) > 0 {
             return;
         }
@@ -51,7 +59,7 @@ impl Gate for TwoAtOnce {
 }
 
 // Lets the others go on. It does not say that it holds nobody, so each worker has a thread, up to the spans.
-struct Yielding;
+pub struct Yielding;
 
 impl Gate for Yielding {
     fn pass(&self, _worker: usize, _span: usize) {
@@ -68,6 +76,13 @@ fn sum_of(report: &Report) -> u64 {
     sum
 }
 
+fn assert_claimed_once(rt: &impl Abort, plan: &Plan, report: &Report) {
+    assert_eq!(rt; report.claimed.len(), plan.len());
+    for i in 0..plan.len() {
+        assert!(rt; report.claimed.contains(&(i as u32)), "span {i}");
+    }
+}
+
 // The root is the board's own and `top` of the plan's input, each worker has a number, no span was left to
 // the sweep, and each was claimed once.
 fn assert_report(rt: &impl Abort, plan: &Plan, workers: u32, report: &Report) {
@@ -76,10 +91,7 @@ fn assert_report(rt: &impl Abort, plan: &Plan, workers: u32, report: &Report) {
     assert_eq!(rt; report.shares.len(), workers as usize);
     assert_eq!(rt; report.swept, 0);
     assert_eq!(rt; sum_of(report), chunks(plan.input().len() as u64));
-    assert_eq!(rt; report.claimed.len(), plan.len());
-    for i in 0..plan.len() {
-        assert!(rt; report.claimed.contains(&(i as u32)), "span {i}");
-    }
+    assert_claimed_once(rt, plan, report);
 }
 
 #[test]
@@ -109,6 +121,13 @@ fn two_at_once(rt: HostRuntime) -> Result<(), Fail> {
     let gate = TwoAtOnce::new();
     let report = hash_parallel(&rt, rt.alloc(), &plan, 2, &gate)?;
     assert_eq!(&rt; gate.met.load(Ordering::SeqCst), 1);
+    assert_eq!(&rt;
+        (
+            gate.workers.load(Ordering::SeqCst),
+            gate.spans.load(Ordering::SeqCst)
+        ),
+        (1, 1)
+    );
     assert_report(&rt, &plan, 2, &report);
     assert_eq!(&rt; report.shares.as_slice(), [16u64, 16].as_slice());
     Ok(())
@@ -136,6 +155,17 @@ fn random_cuttings_and_workers(rt: HostRuntime) -> Result<(), Fail> {
     Ok(())
 }
 
+#[test]
+fn two_workers_a_thousand_times(rt: HostRuntime) -> Result<(), Fail> {
+    let input = pattern(rt.alloc(), 64 * 1024)?;
+    let plan = Plan::new(rt.alloc(), &input, Mode::hash(), 1)?;
+    for _ in 0..1000usize {
+        let report = hash_parallel(&rt, rt.alloc(), &plan, 2, &Yielding)?;
+        assert_claimed_once(&rt, &plan, &report);
+    }
+    Ok(())
+}
+
 // A run that meets want of memory is made again.
 #[test]
 fn refused_memory_of_a_run(rt: HostRuntime) -> Result<(), Fail> {
@@ -155,6 +185,7 @@ fn refused_memory_of_a_run(rt: HostRuntime) -> Result<(), Fail> {
         }
     }
     assert!(&rt; answers > 0);
+    assert!(&rt; last_growth(alloc).is_ok(), "refused behind the last call");
     Ok(())
 }
 

@@ -3,8 +3,8 @@ use Rattle.std.specs.List.{sum, sum_by}
 use Rattle.std.proofs.lemmas.List.Elements.{All-same, All-head, All-tail}
 use Rattle.std.proofs.lemmas.List.Sums.{sum_by-cons, sum_by_push}
 use Rattle.b3_board.specs.Claiming.{has}
-use Rattle.b3_board.specs.Runs.{HasEnded, seat_parts, share_parts}
 use Rattle.b3_board.specs.Shares.{Holding}
+use Rattle.b3_board.specs.WorkerRuns.{HasEnded, seat_parts, share_parts}
 use Rattle.b3_board.specs.declared.claim_rule.View.{View}
 use Rattle.b3_board.proofs.ClaimedIndexes.{has-united_right}
 use Rattle.b3_board.proofs.Hands.{claimed_chunks-joined, claimed_chunks-le}

@@ -1,6 +1,6 @@
 use Rattle.std.proofs.Common.{◌≡◌, ◌+◌, ◌≤◌, ◌<◌, All, length, sum, sum_by}
-use Rattle.b3_board.specs.Runs.{HasEnded, claimed_chunks, seat_parts, share_parts}
 use Rattle.b3_board.specs.Seats.{HasSeenAll, IsSeatOf}
+use Rattle.b3_board.specs.WorkerRuns.{HasEnded, claimed_chunks, seat_parts, share_parts}
 use Rattle.b3_board.proofs.parallel.gather.Given as goal
 
 abbrev pub invariant-loop-hand : goal.invariant-loop-hand

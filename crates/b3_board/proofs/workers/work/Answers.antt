@@ -1,7 +1,7 @@
 use Rattle.std.proofs.Common.{◌+◌, ◌<◌, true, false, length, refl, sym, subst, ap, ◌∙◌, arith}
 use Rattle.b3_board.specs.Claiming.{tried}
-use Rattle.b3_board.specs.Runs.{HasWorked}
 use Rattle.b3_board.specs.Shares.{Holding}
+use Rattle.b3_board.specs.WorkerRuns.{HasWorked}
 use Rattle.b3_board.proofs.Working.{HasWorked-tried}
 use Rattle.b3_board.proofs.workers.work.Goals.{then-try_claim, else-try_claim}
 use Rattle.b3_board.proofs.workers.work.Goals as goal

@@ -1,5 +1,5 @@
 use Rattle.b3_board.specs.Seats.{IsSeatOf}
-use Rattle.b3_board.specs.Runs.{HasWorked}
+use Rattle.b3_board.specs.WorkerRuns.{HasWorked}
 use Rattle.b3_board.proofs.workers.work.Given as goal
 
 abbrev pub invariant-loop-i : goal.invariant-loop-i

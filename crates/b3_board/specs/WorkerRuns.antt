@@ -5,7 +5,7 @@ use Rattle.b3_core.specs.Tree.{top}
 use Rattle.b3_core.specs.declared.tree.Span.{Span}
 use Rattle.b3_board.specs.Claiming.{one_if, times}
 use Rattle.b3_board.specs.Plans.{Outline}
-use Rattle.b3_board.specs.Roots.{RootNode}
+use Rattle.b3_board.specs.RootNodes.{RootNode}
 use Rattle.b3_board.specs.Seats.{BeginsWith, HasSeenAll, Indexes, IsSeatOf, Seated}
 use Rattle.b3_board.specs.Shares.{Holding}
 use Rattle.b3_board.specs.declared.ended.Hand.{Hand}
