@@ -94,7 +94,32 @@ fn refused_memory_is_answered(rt: HostRuntime) -> Result<(), Fail> {
         answered!(read_line(alloc, &want[..66])).err(),
         Some(LineFault::Short)
     );
+    assert!(rt;
+        String::from_str(alloc, "x").is_ok(),
+        "refused behind the last call"
+    );
     Ok(())
+}
+
+/// So does what is refused: a refusal takes no memory.
+#[test]
+fn lines_and_refusals_take_no_memory(rt: HostRuntime) {
+    let alloc = rt.alloc();
+    let digest = digest(&rt);
+    assert_eq!(rt; lines(b"a\n\nb").count(), 3);
+    assert_eq!(rt; LineFault::Short.reason(), "short line");
+    assert!(rt; holds_bad_character(b"\0"));
+    for name in ["", "\0"] {
+        assert!(rt; write_line(alloc, &digest, name).is_err());
+        assert!(rt; write_tagged(alloc, &digest, name).is_err());
+    }
+    for line in ["", "\\", "BLAKE3 (", "\u{FFFD}"] {
+        assert!(rt; read_line(alloc, line.as_bytes()).is_err());
+    }
+    assert!(rt;
+        String::from_str(alloc, "x").is_ok(),
+        "refused behind the last call"
+    );
 }
 
 #[test]
