@@ -20,6 +20,10 @@ append-window before filled left rest n rest_is =
     ∙ ap (λ bytes. take n filled ++ bytes) rest_is)
     ∙ sym (append_assoc before (take n filled) rest)
 
+-- where bytes come behind a window, no read failed
+pub More-not-Failed : (found : Found) → found ≡ More → found ≢ Failed
+More-not-Failed found is_more is_failed = cc (sym is_more ∙ is_failed)
+
 -- what is neither of the others
 pub is-Last : (found : Found) → found ≢ More → found ≢ Failed → found ≡ Last
 is-Last More not_more not_failed = absurd (not_more refl)

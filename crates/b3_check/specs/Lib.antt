@@ -4,6 +4,7 @@ pub mod Tallies
 pub mod Faults
 pub mod Options
 pub mod Scripts
+pub mod Desks
 pub mod Runs
 pub mod Digests
 pub mod Sums

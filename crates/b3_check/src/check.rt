@@ -5,10 +5,12 @@ ghost use Rattle.b3_check.specs.Checks.{check_script, list_script, lists_script}
 ghost use Rattle.b3_check.specs.Digests.{line_output};
 ghost use Rattle.b3_check.specs.Faults.{is_write_fault};
 ghost use Rattle.b3_check.specs.Options.{CanCheck, check_limits};
+ghost use Rattle.b3_check.specs.Desks.{loans, scene_of};
 ghost use Rattle.b3_check.specs.Runs.{HasRoom, Ran, RanSurely, Runs, Stopped, scene};
 ghost use Rattle.b3_check.specs.Tallies.{counted};
 
-use crate::desk::{Desk, Table};
+use crate::crew::Crew;
+use crate::desk::Desk;
 use crate::fault::RunFault;
 use crate::hashing::Output;
 use crate::list_lines::ListLines;
@@ -19,11 +21,17 @@ use crate::shelf::Shelf;
 use crate::sink::Sink;
 use crate::tally::Tally;
 use crate::work::Worker;
+use b3_board::Gate;
 use b3_core::Mode;
 use std::alloc::{AllocError, Global};
+use std::sync::Wait;
+use std::thread::Threads;
 
 /// How many bytes the digest of a check line has.
 const DIGEST_LEN: u32 = 32;
+
+/// The number of the first line of each list.
+const FIRST_LINE: u64 = 1;
 
 /// Reads lists of check lines, hashes the names in them, and writes to `out` whether each has the
 /// digest of its line; to `err` goes each list that cannot be read, each line that is refused, and at
@@ -31,7 +39,7 @@ const DIGEST_LEN: u32 = 32;
 /// cannot be read.
 ///
 /// A list is read whole. A run fault ends the run.
-pub fn run_check<R, S: Shelf, O: Sink, E: Sink>(
+pub fn run_check<R: Threads + Wait + Sync, S: Shelf + Send, O: Sink, E: Sink, G: Gate + Sync>(
     rt: &R,
     alloc: Global,
     shelf: &mut S,
@@ -39,6 +47,7 @@ pub fn run_check<R, S: Shelf, O: Sink, E: Sink>(
     out: &mut O,
     err: &mut E,
     options: &CheckOptions,
+    gate: &G,
 ) -> Result<Tally, RunFault>
     requires options { CanCheck options.now }
     requires lists { length lists.now ≤ 2 ^ 30 }
@@ -73,29 +82,32 @@ pub fn run_check<R, S: Shelf, O: Sink, E: Sink>(
     ensures told { S.told shelf.new ≡ S.told shelf.old }
     ensures still_sure { S.is_sure shelf.new ≡ S.is_sure shelf.old }
 {
-    let mut desk = Table { shelf, out, err };
-    check_lists(alloc, &mut desk, lists, options)
+    let crew = Crew::new(rt, alloc, options.workers, gate);
+    let mut desk = Desk { shelf, out, err };
+    check_lists(alloc, crew, &mut desk, lists, options)
 }
 
 // Checks lists, one after the other, and says how many lines failed.
-fn check_lists<D: Desk>(
+fn check_lists<R: Threads + Wait + Sync, G: Gate + Sync, S: Shelf + Send, O: Sink, E: Sink>(
     alloc: Global,
-    desk: &mut D,
+    crew: Crew<'_, R, G>,
+    desk: &mut Desk<'_, '_, '_, S, O, E>,
     lists: &[String],
     options: &CheckOptions,
 ) -> Result<Tally, RunFault>
     requires options { CanCheck options.now }
     requires lists { length lists.now ≤ 2 ^ 30 }
-    requires room { HasRoom (D.scene desk.old) (length lists.now * (1 + options.now.largest)) }
+    requires room { HasRoom (scene_of S.Shelf O.Sink E.Sink desk.old) (length lists.now * (1 + options.now.largest)) }
     ensures run { Runs (check_limits options.now) (check_script options.now (map string_bytes lists.now))
-        (D.scene desk.old) (D.scene desk.new) result }
+        (scene_of S.Shelf O.Sink E.Sink desk.old) (scene_of S.Shelf O.Sink E.Sink desk.new) result }
     ensures sure { IfOk result (λ tally. RanSurely (check_script options.now (map string_bytes lists.now))
-        (D.scene desk.old) (D.scene desk.new) tally) }
-    ensures shelf_count { (D.scene desk.new).failures ≤ (D.scene desk.old).failures + length lists.now *
+        (scene_of S.Shelf O.Sink E.Sink desk.old) (scene_of S.Shelf O.Sink E.Sink desk.new) tally) }
+    ensures shelf_count { (scene_of S.Shelf O.Sink E.Sink desk.new).failures
+        ≤ (scene_of S.Shelf O.Sink E.Sink desk.old).failures + length lists.now *
         (1 + options.now.largest) }
-    ensures loans { D.loans desk.new ≡ D.loans desk.old }
+    ensures loans { loans desk.new ≡ loans desk.old }
 {
-    let mut checker = Checker::new(alloc, options)?;
+    let mut checker = Checker::new(alloc, crew, options)?;
     let tally = checker.check_all(desk, lists)?;
     let said = Said::warning(alloc, tally.failed)?;
     desk.say(&said)?;
@@ -104,20 +116,24 @@ fn check_lists<D: Desk>(
 
 /// Checks lists over the same memory.
 #[derive(Drop)]
-struct Checker {
+struct Checker<'c, R, G> {
     alloc: Global,
     quiet: bool,
     limits: Limits,
     reader: ListReader,
-    worker: Worker,
+    worker: Worker<'c, R, G>,
     ghost largest: { limits.largest ≤ 2 ^ 30 },
     ghost same_limits: { worker.limits ≡ limits },
     ghost output: { worker.digester.output ≡ line_output },
 }
 
-impl Checker {
+impl<'c, R: Threads + Wait + Sync, G: Gate + Sync> Checker<'c, R, G> {
     /// One that has checked nothing. It takes the room for all reads here.
-    fn new(alloc: Global, options: &CheckOptions) -> Result<Checker, AllocError>
+    fn new(
+        alloc: Global,
+        crew: Crew<'c, R, G>,
+        options: &CheckOptions,
+    ) -> Result<Checker<'c, R, G>, AllocError>
         requires { CanCheck options.now }
         ensures quiet { IfOk result (λ checker. checker.quiet ≡ options.now.quiet) }
         ensures limits { IfOk result (λ checker. checker.limits ≡ check_limits options.now) }
@@ -132,19 +148,25 @@ impl Checker {
             quiet: options.quiet,
             limits: options.limits(),
             reader: ListReader::new(alloc)?,
-            worker: Worker::new(alloc, output, options.limits())?,
+            worker: Worker::new(alloc, crew, output, options.limits())?,
         })
     }
 
     // Checks lists, one after the other.
-    fn check_all<D: Desk>(&mut self, desk: &mut D, lists: &[String]) -> Result<Tally, RunFault>
+    fn check_all<S: Shelf + Send, O: Sink, E: Sink>(
+        &mut self,
+        desk: &mut Desk<'_, '_, '_, S, O, E>,
+        lists: &[String],
+    ) -> Result<Tally, RunFault>
         requires lists { length lists.now ≤ 2 ^ 30 }
-        requires room { HasRoom (D.scene desk.old) (length lists.now * (1 + self.old.limits.largest)) }
+        requires room { HasRoom (scene_of S.Shelf O.Sink E.Sink desk.old)
+            (length lists.now * (1 + self.old.limits.largest)) }
         ensures run { Runs self.old.limits (lists_script self.old.quiet (map string_bytes lists.now))
-            (D.scene desk.old) (D.scene desk.new) result }
-        ensures shelf_count { (D.scene desk.new).failures ≤ (D.scene desk.old).failures + length lists.now *
+            (scene_of S.Shelf O.Sink E.Sink desk.old) (scene_of S.Shelf O.Sink E.Sink desk.new) result }
+        ensures shelf_count { (scene_of S.Shelf O.Sink E.Sink desk.new).failures
+            ≤ (scene_of S.Shelf O.Sink E.Sink desk.old).failures + length lists.now *
             (1 + self.old.limits.largest) }
-        ensures loans { D.loans desk.new ≡ D.loans desk.old }
+        ensures loans { loans desk.new ≡ loans desk.old }
     {
         let mut tally = Tally::none();
         for list in lists {
@@ -155,14 +177,18 @@ impl Checker {
     }
 
     // Reads a list, and checks its lines.
-    fn check_list<D: Desk>(&mut self, desk: &mut D, name: &str) -> Result<Tally, RunFault>
-        requires { HasRoom (D.scene desk.old) (1 + self.old.limits.largest) }
-        ensures run { Runs self.old.limits (list_script self.old.quiet name.now) (D.scene desk.old)
-            (D.scene desk.new) result }
+    fn check_list<S: Shelf + Send, O: Sink, E: Sink>(
+        &mut self,
+        desk: &mut Desk<'_, '_, '_, S, O, E>,
+        name: &str,
+    ) -> Result<Tally, RunFault>
+        requires { HasRoom (scene_of S.Shelf O.Sink E.Sink desk.old) (1 + self.old.limits.largest) }
+        ensures run { Runs self.old.limits (list_script self.old.quiet name.now)
+            (scene_of S.Shelf O.Sink E.Sink desk.old) (scene_of S.Shelf O.Sink E.Sink desk.new) result }
         ensures count { IfOk result (λ tally. counted tally ≤ 1 + self.old.limits.largest) }
-        ensures shelf_count { (D.scene desk.new).failures
-            ≤ (D.scene desk.old).failures + (1 + self.old.limits.largest) }
-        ensures loans { D.loans desk.new ≡ D.loans desk.old }
+        ensures shelf_count { (scene_of S.Shelf O.Sink E.Sink desk.new).failures
+            ≤ (scene_of S.Shelf O.Sink E.Sink desk.old).failures + (1 + self.old.limits.largest) }
+        ensures loans { loans desk.new ≡ loans desk.old }
         ensures quiet { self.new.quiet ≡ self.old.quiet }
         ensures limits { self.new.limits ≡ self.old.limits }
     {
@@ -171,7 +197,7 @@ impl Checker {
             desk.say(&said)?;
             return Ok(said.tally);
         }
-        let mut plan = ListLines::new(self.alloc, self.quiet, self.reader.text());
+        let mut plan = ListLines::new(self.alloc, self.quiet, FIRST_LINE, self.reader.text());
         self.worker.run(desk, &mut plan)
     }
 }

@@ -1,6 +1,7 @@
 //! A name hashed: from the beginning of its file to its digest.
 
 ghost use Rattle.std.specs.Prelude.{◌≡◌, ◌≢◌, ℕ, ◌+◌, ◌-◌, ◌*◌, ◌/◌, ◌%◌, ◌^◌, ◌<◌, ◌≤◌, ◌++◌, Ok, List, drop, length, take, false, IsTrue, IsSome, IfOk, IfErr, MatchOption, OnOk, vec_len};
+ghost use Rattle.std.specs.Thread.{IsSync};
 ghost use Rattle.b3_core.specs.Output.{output_bytes};
 ghost use Rattle.b3_core.specs.Tree.{chunks, top};
 ghost use Rattle.b3_hash.specs.Hashers.{StandsFor, length_of, mode_of};
@@ -9,22 +10,24 @@ ghost use Rattle.b3_check.specs.Reading.{IsDigestOf, IsFaultOfRest, IsOutputOf, 
 ghost use Rattle.b3_check.specs.Scripts.Kind.{Hashed};
 ghost use Rattle.b3_check.specs.Windows.{failed_reads, filled_bytes};
 ghost use Rattle.b3_check.specs.declared.buffer.TheConstants.{WINDOW_LEN};
+ghost use Rattle.b3_check.specs.declared.fault.RunFault.TheVariants as RunFault;
 ghost use Rattle.b3_check.specs.declared.room.TheConstants.{READ_LEN};
 ghost use Rattle.b3_check.specs.declared.window.Found.TheVariants.{Failed, Last, More};
 
 use crate::buffer::{Buffer, WINDOW_LEN, WINDOW_LEVEL};
+use crate::crew::Crew;
 use crate::fault::RunFault;
 use crate::options::Limits;
 use crate::room::zeros;
 use crate::shelf::Shelf;
 use crate::window::{Found, fill};
-use b3_core::{Mode, Node};
+use b3_board::Gate;
+use b3_core::{CHUNK_LEN, Mode, Node};
 use b3_hash::{Hasher, Xof};
 use std::alloc::{AllocError, Global};
 use std::mem;
-
-/// How many bytes a chunk has.
-const CHUNK_LEN: u64 = 1_024;
+use std::sync::Wait;
+use std::thread::{Threads, join_mut};
 
 /// Which bytes of which output of a content are wanted.
 #[derive(Drop)]
@@ -75,8 +78,9 @@ impl Digester {
 
     /// Hashes the content of a name (BLAKE3 (2020), 2.6), and answers whether it can be read. A run
     /// fault comes where the content has not ended after as many reads as `limits` allow.
-    pub fn hash_name<S: Shelf>(
+    pub fn hash_name<R: Threads + Wait + Sync, G: Gate + Sync, S: Shelf + Send>(
         &mut self,
+        crew: &Crew<'_, R, G>,
         shelf: &mut S,
         name: &str,
         limits: Limits,
@@ -96,7 +100,7 @@ impl Digester {
         if shelf.begin(name).is_err() {
             return Ok(false);
         }
-        let Some(output) = self.hash_rest(shelf, limits)? else {
+        let Some(output) = self.hash_rest(crew, shelf, limits)? else {
             return Ok(false);
         };
         self.take_digest(output);
@@ -105,8 +109,9 @@ impl Digester {
 
     // Hashes what is left of the file that is begun, and answers its output, or nothing where it cannot be
     // read.
-    fn hash_rest<S: Shelf>(
+    fn hash_rest<R: Threads + Wait + Sync, G: Gate + Sync, S: Shelf + Send>(
         &mut self,
+        crew: &Crew<'_, R, G>,
         shelf: &mut S,
         limits: Limits,
     ) -> Result<Option<Xof>, RunFault>
@@ -128,20 +133,22 @@ impl Digester {
         self.current.clear();
         let mut found = fill(shelf, &mut self.current, &mut left)?;
         'windows: while found == Found::More {
-            let next = self.next_window(shelf, &mut hasher, &mut left)?;
+            let next = self.next_window(crew, shelf, &mut hasher, &mut left)?;
             found = next;
         }
         if found == Found::Failed {
             return Ok(None);
         }
         let mode = &self.output.mode;
-        let last = window_node(self.current.filled(), mode, hasher.len() / CHUNK_LEN);
+        let last = crew.window_node(self.current.filled(), mode, hasher.len() / CHUNK_LEN as u64)?;
         Ok(Some(hasher.finish_with(last)))
     }
 
-    // Hashes the window at hand, which is full, and reads the next one. `limits` are those of what is left.
-    fn next_window<S: Shelf>(
+    // Hashes the window at hand, which is full, and reads the next one meanwhile, in a thread of its own.
+    // `limits` are those of what is left. A window whose next one cannot be read is not pushed.
+    fn next_window<R: Threads + Wait + Sync, G: Gate + Sync, S: Shelf + Send>(
         &mut self,
+        crew: &Crew<'_, R, G>,
         shelf: &mut S,
         hasher: &mut Hasher,
         limits: &mut Limits,
@@ -153,9 +160,10 @@ impl Digester {
         requires mode { mode_of hasher.old ≡ self.old.output.mode }
         requires aligned { length_of hasher.old % WINDOW_LEN ≡ 0 }
         requires fits { length_of hasher.old + WINDOW_LEN ≤ 2 ^ 60 }
-        ensures hashed { OnOk result ((before : List ℕ) → StandsFor hasher.old before
+        ensures hashed { IfOk result (λ found. found ≢ Failed → (before : List ℕ) → StandsFor hasher.old before
             → StandsFor hasher.new (before ++ take WINDOW_LEN (filled_bytes self.old.current))) }
-        ensures len { OnOk result (length_of hasher.new ≡ length_of hasher.old + WINDOW_LEN) }
+        ensures len { IfOk result (λ found. found ≢ Failed
+            → length_of hasher.new ≡ length_of hasher.old + WINDOW_LEN) }
         ensures mode { mode_of hasher.new ≡ mode_of hasher.old }
         ensures output { self.new.output ≡ self.old.output }
         ensures more { result ≡ Ok More → WINDOW_LEN < self.new.current.filled }
@@ -171,7 +179,8 @@ impl Digester {
         ensures fewer { OnOk result (limits.new.turns < limits.old.turns) }
         ensures many { result ≡ Ok More → limits.old.turns + self.old.current.filled
             ≤ limits.new.turns + self.new.current.filled + WINDOW_LEN }
-        ensures few { OnOk result (self.new.current.filled + WINDOW_LEN + READ_LEN * limits.new.turns
+        ensures few { IfOk result (λ found. found ≢ Failed
+            → self.new.current.filled + WINDOW_LEN + READ_LEN * limits.new.turns
             ≤ self.old.current.filled + READ_LEN * limits.old.turns) }
         ensures fault { IfErr result (λ fault.
             IsFaultOfRest fault (S.told shelf.old) limits.old Hashed (S.left shelf.old)) }
@@ -181,12 +190,34 @@ impl Digester {
         ensures told { S.told shelf.new ≡ S.told shelf.old }
         ensures still_sure { S.is_sure shelf.new ≡ S.is_sure shelf.old }
     {
-        let (full, tail) = self.current.filled().split_at(WINDOW_LEN);
-        self.next.start_with(tail)?;
-        let node = window_node(full, &self.output.mode, hasher.len() / CHUNK_LEN);
+        let Digester {
+            output,
+            current,
+            next,
+            ..
+        } = self;
+        let (full, tail) = current.filled().split_at(WINDOW_LEN);
+        next.start_with(tail)?;
+        let mode = output.mode;
+        let first = hasher.len() / CHUNK_LEN as u64;
+        let (found, node) = join_mut(
+            crew.runtime(),
+            &mut || fill(shelf, next, limits),
+            &mut || -> Result<Node, RunFault>
+                requires { IsSync R.row × IsSync G.row × (first + chunks (length full.now) ≤ 2 ^ 54)
+                    × (length full.now ≤ WINDOW_LEN) }
+                ensures node { IfOk result (λ node. node ≡ top mode first full.entry.now) }
+                ensures fault { IfErr result (λ fault. fault ≡ RunFault.Memory) }
+            { crew.window_node(full, &mode, first) },
+        );
+        // A failure of the shelf was counted: it is the answer, whatever became of the hash.
+        let found = found?;
+        if found == Found::Failed {
+            return Ok(found);
+        }
+        let node = node?;
         hasher.push_window(node, WINDOW_LEVEL).unwrap();
-        let found = fill(shelf, &mut self.next, limits)?;
-        mem::swap(&mut self.current, &mut self.next);
+        mem::swap(current, next);
         Ok(found)
     }
 
@@ -198,13 +229,4 @@ impl Digester {
         output.seek(self.output.seek);
         output.fill(self.digest.as_mut_slice()).unwrap();
     }
-}
-
-// The node of a window (BLAKE3 (2020), 2.1), whose chunks are numbered from `first`. Every window of every
-// file comes through here.
-fn window_node(bytes: &[u8], mode: &Mode, first: u64) -> Node
-    requires { first + chunks (length bytes.now) ≤ 2 ^ 54 }
-    ensures { result ≡ top mode.now first bytes.now }
-{
-    b3_core::top(mode, first, bytes)
 }

@@ -4,6 +4,7 @@
 
 mod buffer;
 mod check;
+mod crew;
 mod desk;
 mod fault;
 mod hashing;

@@ -23,10 +23,10 @@ pub struct ListLines<'t> {
 }
 
 impl<'t> ListLines<'t> {
-    /// The lines of this text, the first of which is line 1. `quiet` says nothing of a good one.
-    pub fn new(alloc: Global, quiet: bool, text: &'t [u8]) -> ListLines<'t>
-        requires { length text.now ≤ 2 ^ 30 }
-        ensures lines { ⟦<ListLines<'t> as Plan<'t>>⟧.left result ≡ line_tasks quiet 1 (lines_of text.now) }
+    /// The lines of this text, numbered from `first` on. `quiet` says nothing of a good one.
+    pub fn new(alloc: Global, quiet: bool, first: u64, text: &'t [u8]) -> ListLines<'t>
+        requires { first + length text.now ≤ 2 ^ 32 }
+        ensures lines { ⟦<ListLines<'t> as Plan<'t>>⟧.left result ≡ line_tasks quiet first (lines_of text.now) }
         ensures few { length (⟦<ListLines<'t> as Plan<'t>>⟧.left result) ≤ length text.now }
         ensures fits { ⟦<ListLines<'t> as Plan<'t>>⟧.fits result 32 ≡ true }
     {
@@ -35,7 +35,7 @@ impl<'t> ListLines<'t> {
             quiet,
             text,
             places: lines(text),
-            number: 1,
+            number: first,
         }
     }
 }

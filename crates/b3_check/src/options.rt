@@ -44,7 +44,7 @@ pub struct SumOptions {
     pub length: u32,
     /// What is written for a digest.
     pub form: Form,
-    /// How many workers may hash. One does so far.
+    /// How many workers may hash, each in a thread.
     pub workers: u32,
     /// How many reads a file may take.
     pub turns: u64,
@@ -57,7 +57,7 @@ pub struct SumOptions {
 pub struct CheckOptions {
     /// Whether nothing is written for a name whose digest is that of its line.
     pub quiet: bool,
-    /// How many workers may hash. One does so far.
+    /// How many workers may hash, each in a thread.
     pub workers: u32,
     /// How many reads a file may take.
     pub turns: u64,

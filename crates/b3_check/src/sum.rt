@@ -4,11 +4,13 @@ ghost use Rattle.std.specs.Prelude.{◌≡◌, ◌+◌, ◌-◌, ◌^◌, ◌<�
 ghost use Rattle.b3_check.specs.Faults.{is_write_fault};
 ghost use Rattle.b3_check.specs.Options.{CanRun, limits_of};
 ghost use Rattle.b3_check.specs.Reading.{FindsMode};
+ghost use Rattle.b3_check.specs.Desks.{loans, scene_of};
 ghost use Rattle.b3_check.specs.Runs.{HasRoom, Ran, RanSurely, Runs, Stopped, scene};
 ghost use Rattle.b3_check.specs.Sums.{keys_asked, sum_script};
 ghost use Rattle.b3_check.specs.declared.options.Form.TheVariants.{Raw};
 
-use crate::desk::{Desk, Table};
+use crate::crew::Crew;
+use crate::desk::Desk;
 use crate::fault::RunFault;
 use crate::hashing::Output;
 use crate::items::Names;
@@ -17,16 +19,19 @@ use crate::shelf::Shelf;
 use crate::sink::Sink;
 use crate::tally::Tally;
 use crate::work::Worker;
+use b3_board::Gate;
 use b3_core::Mode;
 use b3_hash::derive_mode;
 use std::alloc::Global;
+use std::sync::Wait;
+use std::thread::Threads;
 
 /// Writes the digest of each name to `out`, and to `err` a complaint for each name that has none, and
 /// answers how many names are ok and how many failed.
 ///
 /// A digest is `length` bytes of the output from place `seek` on (BLAKE3 (2020), 2.6). With the key
 /// `Keyed` the name `-` is read first, at most 33 bytes of it. A run fault ends the run.
-pub fn run_sum<R, S: Shelf, O: Sink, E: Sink>(
+pub fn run_sum<R: Threads + Wait + Sync, S: Shelf + Send, O: Sink, E: Sink, G: Gate + Sync>(
     rt: &R,
     alloc: Global,
     shelf: &mut S,
@@ -34,6 +39,7 @@ pub fn run_sum<R, S: Shelf, O: Sink, E: Sink>(
     out: &mut O,
     err: &mut E,
     options: &SumOptions,
+    gate: &G,
 ) -> Result<Tally, RunFault>
     requires options { CanRun options.now }
     requires names { length names.now ≤ 2 ^ 30 }
@@ -67,27 +73,30 @@ pub fn run_sum<R, S: Shelf, O: Sink, E: Sink>(
     ensures told { S.told shelf.new ≡ S.told shelf.old }
     ensures still_sure { S.is_sure shelf.new ≡ S.is_sure shelf.old }
 {
-    let mut desk = Table { shelf, out, err };
-    sum_names(alloc, &mut desk, names, options)
+    let crew = Crew::new(rt, alloc, options.workers, gate);
+    let mut desk = Desk { shelf, out, err };
+    sum_names(alloc, crew, &mut desk, names, options)
 }
 
 // Writes the digest of each name.
-fn sum_names<D: Desk>(
+fn sum_names<R: Threads + Wait + Sync, G: Gate + Sync, S: Shelf + Send, O: Sink, E: Sink>(
     alloc: Global,
-    desk: &mut D,
+    crew: Crew<'_, R, G>,
+    desk: &mut Desk<'_, '_, '_, S, O, E>,
     names: &[String],
     options: &SumOptions,
 ) -> Result<Tally, RunFault>
     requires options { CanRun options.now }
     requires names { length names.now ≤ 2 ^ 30 }
-    requires room { HasRoom (D.scene desk.old) (1 + length names.now) }
-    ensures run { Runs (limits_of options.now) (sum_script options.now (map string_bytes names.now)) (D.scene desk.old)
-        (D.scene desk.new) result }
+    requires room { HasRoom (scene_of S.Shelf O.Sink E.Sink desk.old) (1 + length names.now) }
+    ensures run { Runs (limits_of options.now) (sum_script options.now (map string_bytes names.now))
+        (scene_of S.Shelf O.Sink E.Sink desk.old) (scene_of S.Shelf O.Sink E.Sink desk.new) result }
     ensures sure { IfOk result (λ tally. RanSurely (sum_script options.now (map string_bytes names.now))
-        (D.scene desk.old) (D.scene desk.new) tally) }
-    ensures shelf_count { (D.scene desk.new).failures ≤ (D.scene desk.old).failures + keys_asked options.now.key
+        (scene_of S.Shelf O.Sink E.Sink desk.old) (scene_of S.Shelf O.Sink E.Sink desk.new) tally) }
+    ensures shelf_count { (scene_of S.Shelf O.Sink E.Sink desk.new).failures
+        ≤ (scene_of S.Shelf O.Sink E.Sink desk.old).failures + keys_asked options.now.key
         + length names.now }
-    ensures loans { D.loans desk.new ≡ D.loans desk.old }
+    ensures loans { loans desk.new ≡ loans desk.old }
 {
     let mode = find_mode(desk, &options.key)?;
     let output = Output {
@@ -95,7 +104,7 @@ fn sum_names<D: Desk>(
         seek: options.seek,
         length: options.length,
     };
-    let mut worker = Worker::new(alloc, output, options.limits())?;
+    let mut worker = Worker::new(alloc, crew, output, options.limits())?;
     let mut plan = Names {
         alloc,
         form: options.form,
@@ -105,10 +114,14 @@ fn sum_names<D: Desk>(
 }
 
 // The mode of a choice of key, which may have to be read.
-fn find_mode<D: Desk>(desk: &mut D, key: &KeyChoice) -> Result<Mode, RunFault>
-    requires { HasRoom (D.scene desk.old) 1 }
-    ensures found { FindsMode key.now (D.scene desk.old) (D.scene desk.new) result }
-    ensures loans { D.loans desk.new ≡ D.loans desk.old }
+fn find_mode<S: Shelf + Send, O: Sink, E: Sink>(
+    desk: &mut Desk<'_, '_, '_, S, O, E>,
+    key: &KeyChoice,
+) -> Result<Mode, RunFault>
+    requires { HasRoom (scene_of S.Shelf O.Sink E.Sink desk.old) 1 }
+    ensures found { FindsMode key.now
+        (scene_of S.Shelf O.Sink E.Sink desk.old) (scene_of S.Shelf O.Sink E.Sink desk.new) result }
+    ensures loans { loans desk.new ≡ loans desk.old }
 {
     match key {
         KeyChoice::Plain => Ok(Mode::hash()),

@@ -8,8 +8,13 @@ mod devices;
 mod faults;
 mod faulty_files;
 mod memory;
+mod plain_lines;
+mod random;
+mod recording;
+mod report;
 mod sums;
 mod windows;
+mod workers;
 
 use crate::{CheckOptions, Form, KeyChoice, RunFault, SumOptions, Tally};
 use std::alloc::Global;

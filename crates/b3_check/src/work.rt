@@ -1,32 +1,45 @@
 //! The loop that both engines go through.
 
 ghost use Rattle.std.specs.Prelude.{◌≡◌, ◌+◌, ◌-◌, ◌^◌, ◌<◌, ◌≤◌, true, length, IfOk};
+ghost use Rattle.b3_check.specs.Desks.{loans, scene_of};
 ghost use Rattle.b3_check.specs.Runs.{HasRoom, Runs};
 ghost use Rattle.b3_check.specs.Tallies.{counted};
 ghost use Rattle.b3_check.specs.Tasks.{IsFit, IsFitItem, Gives, name_asked, subject_report, task_of, task_script, tasks_script};
 
+use crate::crew::Crew;
 use crate::desk::Desk;
 use crate::fault::RunFault;
 use crate::hashing::{Digester, Output};
 use crate::items::{Item, Plan, Subject};
 use crate::options::Limits;
 use crate::said::Said;
+use crate::shelf::Shelf;
+use crate::sink::Sink;
 use crate::tally::Tally;
+use b3_board::Gate;
 use std::alloc::{AllocError, Global};
+use std::sync::Wait;
+use std::thread::Threads;
 
 /// Does what a plan says. It reads, hashes, writes and counts, item after item.
 #[derive(Drop)]
-pub struct Worker {
+pub struct Worker<'c, R, G> {
     alloc: Global,
+    crew: Crew<'c, R, G>,
     digester: Digester,
     limits: Limits,
     ghost some_turns: { 0 < limits.turns },
     ghost turns: { limits.turns ≤ 2 ^ 40 },
 }
 
-impl Worker {
+impl<'c, R: Threads + Wait + Sync, G: Gate + Sync> Worker<'c, R, G> {
     /// One that has done nothing. It takes the room for all reads here.
-    pub fn new(alloc: Global, output: Output, limits: Limits) -> Result<Worker, AllocError>
+    pub fn new(
+        alloc: Global,
+        crew: Crew<'c, R, G>,
+        output: Output,
+        limits: Limits,
+    ) -> Result<Worker<'c, R, G>, AllocError>
         requires in_output { output.seek + output.length ≤ 2 ^ 64 - 1 }
         requires some_turns { 0 < limits.turns }
         requires turns { limits.turns ≤ 2 ^ 40 }
@@ -35,25 +48,27 @@ impl Worker {
     {
         Ok(Worker {
             alloc,
+            crew,
             digester: Digester::new(alloc, output)?,
             limits,
         })
     }
 
     /// Does the items of a plan, one after the other.
-    pub fn run<'p, D: Desk, P: Plan<'p>>(
+    pub fn run<'p, S: Shelf + Send, O: Sink, E: Sink, P: Plan<'p>>(
         &mut self,
-        desk: &mut D,
+        desk: &mut Desk<'_, '_, '_, S, O, E>,
         plan: &mut P,
     ) -> Result<Tally, RunFault>
         requires fits { P.fits plan.old self.old.digester.output.length ≡ true }
         requires few { length (P.left plan.old) < 2 ^ 63 }
-        requires room { HasRoom (D.scene desk.old) (length (P.left plan.old)) }
+        requires room { HasRoom (scene_of S.Shelf O.Sink E.Sink desk.old) (length (P.left plan.old)) }
         ensures run { Runs self.old.limits (tasks_script self.old.digester.output (P.left plan.old))
-            (D.scene desk.old) (D.scene desk.new) result }
+            (scene_of S.Shelf O.Sink E.Sink desk.old) (scene_of S.Shelf O.Sink E.Sink desk.new) result }
         ensures count { IfOk result (λ tally. counted tally ≡ length (P.left plan.old)) }
-        ensures shelf_count { (D.scene desk.new).failures ≤ (D.scene desk.old).failures + length (P.left plan.old) }
-        ensures loans { D.loans desk.new ≡ D.loans desk.old }
+        ensures shelf_count { (scene_of S.Shelf O.Sink E.Sink desk.new).failures
+            ≤ (scene_of S.Shelf O.Sink E.Sink desk.old).failures + length (P.left plan.old) }
+        ensures loans { loans desk.new ≡ loans desk.old }
         ensures limits { self.new.limits ≡ self.old.limits }
         ensures output { self.new.digester.output ≡ self.old.digester.output }
     {
@@ -66,14 +81,19 @@ impl Worker {
     }
 
     // Does one item.
-    fn run_item<D: Desk>(&mut self, desk: &mut D, item: &Item<'_>) -> Result<Tally, RunFault>
+    fn run_item<S: Shelf + Send, O: Sink, E: Sink>(
+        &mut self,
+        desk: &mut Desk<'_, '_, '_, S, O, E>,
+        item: &Item<'_>,
+    ) -> Result<Tally, RunFault>
         requires fit { IsFitItem self.old.digester.output.length item.now }
-        requires room { HasRoom (D.scene desk.old) 1 }
+        requires room { HasRoom (scene_of S.Shelf O.Sink E.Sink desk.old) 1 }
         ensures run { Runs self.old.limits (task_script self.old.digester.output (task_of item.now))
-            (D.scene desk.old) (D.scene desk.new) result }
+            (scene_of S.Shelf O.Sink E.Sink desk.old) (scene_of S.Shelf O.Sink E.Sink desk.new) result }
         ensures one { IfOk result (λ tally. counted tally ≡ 1) }
-        ensures shelf_count { (D.scene desk.new).failures ≤ (D.scene desk.old).failures + 1 }
-        ensures loans { D.loans desk.new ≡ D.loans desk.old }
+        ensures shelf_count { (scene_of S.Shelf O.Sink E.Sink desk.new).failures
+            ≤ (scene_of S.Shelf O.Sink E.Sink desk.old).failures + 1 }
+        ensures loans { loans desk.new ≡ loans desk.old }
         ensures limits { self.new.limits ≡ self.old.limits }
         ensures output { self.new.digester.output ≡ self.old.digester.output }
     {
@@ -91,17 +111,21 @@ impl Worker {
     }
 
     // Asks for a name, and answers what is to be said of it.
-    fn find<D: Desk>(&mut self, desk: &mut D, subject: &Subject<'_>) -> Result<Said, RunFault>
+    fn find<S: Shelf + Send, O: Sink, E: Sink>(
+        &mut self,
+        desk: &mut Desk<'_, '_, '_, S, O, E>,
+        subject: &Subject<'_>,
+    ) -> Result<Said, RunFault>
         requires fit { IsFit self.old.digester.output.length subject.now }
-        requires room { HasRoom (D.scene desk.old) 1 }
+        requires room { HasRoom (scene_of S.Shelf O.Sink E.Sink desk.old) 1 }
         ensures gives { Gives self.old.limits self.old.digester.output (name_asked subject.now)
             (subject_report subject.now)
-            (D.scene desk.old) (D.scene desk.new) result }
-        ensures loans { D.loans desk.new ≡ D.loans desk.old }
+            (scene_of S.Shelf O.Sink E.Sink desk.old) (scene_of S.Shelf O.Sink E.Sink desk.new) result }
+        ensures loans { loans desk.new ≡ loans desk.old }
         ensures limits { self.new.limits ≡ self.old.limits }
         ensures output { self.new.digester.output ≡ self.old.digester.output }
     {
-        let whole = desk.hash(&mut self.digester, subject.name(), self.limits)?;
+        let whole = desk.hash(&self.crew, &mut self.digester, subject.name(), self.limits)?;
         let digest = whole.then_some(self.digester.digest());
         Ok(subject.said(self.alloc, digest)?)
     }

@@ -7,18 +7,22 @@ ghost use Rattle.b3sum.specs.Calls.{EndsCall, IsStopOf};
 use crate::run::run_words;
 use crate::stop::Stop;
 use crate::words::Words;
+use b3_board::Gate;
 use b3_check::{Shelf, Sink};
 use std::alloc::Global;
 use std::io;
+use std::sync::Wait;
+use std::thread::Threads;
 
 /// Does what the arguments of a call ask for, and answers the status of the program.
-pub fn run_call<R, S: Shelf, O: Sink, E: Sink>(
+pub fn run_call<R: Threads + Wait + Sync, S: Shelf + Send, O: Sink, E: Sink, G: Gate + Sync>(
     rt: &R,
     alloc: Global,
     arguments: io::Result<Vec<String>>,
     shelf: &mut S,
     out: &mut O,
     err: &mut E,
+    gate: &G,
 ) -> u8
     requires shelf_failures { S.failures shelf.old < 2 ^ 63 }
     requires out_failures { O.failures out.old < 2 ^ 63 }
@@ -28,7 +32,7 @@ pub fn run_call<R, S: Shelf, O: Sink, E: Sink>(
         (scene S.Shelf O.Sink E.Sink shelf.new out.new err.new) result }
 {
     match read_words(alloc, arguments) {
-        Ok(words) => run_words(rt, alloc, shelf, words, out, err),
+        Ok(words) => run_words(rt, alloc, shelf, words, out, err, gate),
         Err(stop) => stop.say(out, err),
     }
 }

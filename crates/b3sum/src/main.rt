@@ -18,6 +18,7 @@ mod tests;
 mod usage;
 mod words;
 
+use b3_board::OpenGate;
 use call::run_call;
 use files::FileShelf;
 use outputs::OutputSink;
@@ -30,7 +31,15 @@ fn main(rt: HostRuntime) -> ExitCode {
     let mut out = OutputSink::new(rt.stdout());
     let mut err = OutputSink::new(rt.stderr());
     let arguments = arguments(&rt);
-    ExitCode::from(run_call(&rt, rt.alloc(), arguments, &mut shelf, &mut out, &mut err))
+    ExitCode::from(run_call(
+        &rt,
+        rt.alloc(),
+        arguments,
+        &mut shelf,
+        &mut out,
+        &mut err,
+        &OpenGate,
+    ))
 }
 
 // The arguments of this call.

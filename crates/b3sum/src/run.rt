@@ -6,19 +6,23 @@ use crate::say::say_line;
 use crate::stop::{FAILURE, USAGE};
 use crate::task::{Task, settle};
 use crate::words::Words;
+use b3_board::Gate;
 use b3_check::{RunFault, Shelf, Sink, Tally, run_check, run_sum};
 use std::alloc::{AllocError, Global};
+use std::sync::Wait;
+use std::thread::Threads;
 
 /// Does what the words of a call ask for, and answers the status: 2 where they ask for nothing that can
 /// be done, else that of the run's tally, or 1 where a fault stops it. The refusal or the fault is said
 /// on `err`.
-pub fn run_words<R, S: Shelf, O: Sink, E: Sink>(
+pub fn run_words<R: Threads + Wait + Sync, S: Shelf + Send, O: Sink, E: Sink, G: Gate + Sync>(
     rt: &R,
     alloc: Global,
     shelf: &mut S,
     words: Words,
     out: &mut O,
     err: &mut E,
+    gate: &G,
 ) -> u8
     requires shelf_failures { S.failures shelf.old < 2 ^ 63 }
     requires out_failures { O.failures out.old < 2 ^ 63 }
@@ -28,7 +32,7 @@ pub fn run_words<R, S: Shelf, O: Sink, E: Sink>(
         (scene S.Shelf O.Sink E.Sink shelf.new out.new err.new) result }
 {
     match settle(words) {
-        Ok(task) => run_task(rt, alloc, shelf, task, out, err),
+        Ok(task) => run_task(rt, alloc, shelf, task, out, err, gate),
         Err(usage) => {
             let (text, option) = usage.text();
             say_line(err, text, option);
@@ -38,13 +42,14 @@ pub fn run_words<R, S: Shelf, O: Sink, E: Sink>(
 }
 
 // Does a task, and answers the status.
-fn run_task<R, S: Shelf, O: Sink, E: Sink>(
+fn run_task<R: Threads + Wait + Sync, S: Shelf + Send, O: Sink, E: Sink, G: Gate + Sync>(
     rt: &R,
     alloc: Global,
     shelf: &mut S,
     task: Task,
     out: &mut O,
     err: &mut E,
+    gate: &G,
 ) -> u8
     requires task { CanDo task }
     requires shelf_failures { S.failures shelf.old < 2 ^ 63 }
@@ -54,7 +59,7 @@ fn run_task<R, S: Shelf, O: Sink, E: Sink>(
         (scene S.Shelf O.Sink E.Sink shelf.old out.old err.old)
         (scene S.Shelf O.Sink E.Sink shelf.new out.new err.new) result }
 {
-    match run_engine(rt, alloc, shelf, task, out, err) {
+    match run_engine(rt, alloc, shelf, task, out, err, gate) {
         Ok(tally) => tally.status(),
         Err(fault) => {
             say_line(err, fault.text(), "");
@@ -64,13 +69,14 @@ fn run_task<R, S: Shelf, O: Sink, E: Sink>(
 }
 
 // Runs the engine of a task.
-fn run_engine<R, S: Shelf, O: Sink, E: Sink>(
+fn run_engine<R: Threads + Wait + Sync, S: Shelf + Send, O: Sink, E: Sink, G: Gate + Sync>(
     rt: &R,
     alloc: Global,
     shelf: &mut S,
     task: Task,
     out: &mut O,
     err: &mut E,
+    gate: &G,
 ) -> Result<Tally, RunFault>
     requires task { CanDo task }
     requires shelf_failures { S.failures shelf.old < 2 ^ 63 }
@@ -90,11 +96,11 @@ fn run_engine<R, S: Shelf, O: Sink, E: Sink>(
     match task {
         Task::Sum(options, files) => {
             let names = names_of(alloc, files)?;
-            run_sum(rt, alloc, shelf, names.as_slice(), out, err, &options)
+            run_sum(rt, alloc, shelf, names.as_slice(), out, err, &options, gate)
         }
         Task::Check(options, files) => {
             let lists = names_of(alloc, files)?;
-            run_check(rt, alloc, shelf, lists.as_slice(), out, err, &options)
+            run_check(rt, alloc, shelf, lists.as_slice(), out, err, &options, gate)
         }
     }
 }

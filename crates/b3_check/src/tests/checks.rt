@@ -9,12 +9,16 @@ use crate::{
     Answer, CheckOptions, MemoryShelf, MemorySink, RunFault, Shelf, Sink, Tally, Verdict, judge,
     run_check,
 };
+use b3_board::OpenGate;
 use b3_lines::read_line;
 use std::alloc::Global;
+use std::sync::Wait;
 use std::test::Fail;
+use std::thread::Threads;
 
 // Checks one list with these options.
-pub fn check_one<S: Shelf, O: Sink, E: Sink>(
+pub fn check_one<R: Threads + Wait + Sync, S: Shelf + Send, O: Sink, E: Sink>(
+    rt: &R,
     alloc: Global,
     shelf: &mut S,
     list: &str,
@@ -28,7 +32,7 @@ pub fn check_one<S: Shelf, O: Sink, E: Sink>(
     requires err { E.failures err.old < 2 ^ 63 }
 {
     let lists = [String::from_str(alloc, list)?];
-    run_check(&(), alloc, shelf, &lists, out, err, options)
+    run_check(rt, alloc, shelf, &lists, out, err, options, &OpenGate)
 }
 
 // A list of a right line that ends in CR LF, a wrong one, and one that is cut off; and its two files.
@@ -56,7 +60,7 @@ fn right_and_wrong_and_malformed_lines(rt: HostRuntime) -> Result<(), Fail> {
         let mut out = MemorySink::new(rt.alloc());
         let mut err = MemorySink::new(rt.alloc());
         let asked = check_options(quiet, 1_000);
-        let answer = check_one(rt.alloc(), &mut shelf, "l", &mut out, &mut err, &asked);
+        let answer = check_one(&rt, rt.alloc(), &mut shelf, "l", &mut out, &mut err, &asked);
         assert_eq!(rt; answer, Ok(tally(1, 2, 0)));
         assert_eq!(rt; tally(1, 2, 0).status(), 1);
         assert_eq!(rt; out.bytes(), written.as_bytes());
@@ -71,7 +75,7 @@ fn an_output_that_fails_at_its_second_byte(rt: HostRuntime) -> Result<(), Fail> 
     let mut out = OneByteSink::new(rt.alloc(), 1);
     let mut err = MemorySink::new(rt.alloc());
     let asked = check_options(false, 1_000);
-    let answer = check_one(rt.alloc(), &mut shelf, "l", &mut out, &mut err, &asked);
+    let answer = check_one(&rt, rt.alloc(), &mut shelf, "l", &mut out, &mut err, &asked);
     assert_eq!(rt; answer, Err(RunFault::WriteFault));
     assert_eq!(rt; out.bytes.as_slice(), b"x".as_slice());
     assert!(rt; err.bytes().is_empty());
@@ -112,7 +116,7 @@ fn lists_of_one_line_or_none(rt: HostRuntime) -> Result<(), Fail> {
         shelf.put("l", list)?;
         shelf.put("a\\b", b"")?;
         let asked = check_options(false, 1_000);
-        let answer = check_one(rt.alloc(), &mut shelf, "l", &mut out, &mut err, &asked);
+        let answer = check_one(&rt, rt.alloc(), &mut shelf, "l", &mut out, &mut err, &asked);
         assert_eq!(rt; answer, Ok(counts));
         assert_eq!(rt; out.bytes(), written.as_bytes());
         let warned = if counts.failed == 0 { "" } else { warning };
@@ -155,7 +159,7 @@ fn lines_of_both_forms(rt: HostRuntime) -> Result<(), Fail> {
     shelf.put("e", b"")?;
     shelf.put("x", b"\0")?;
     let asked = check_options(false, 1_000);
-    let answer = check_one(rt.alloc(), &mut shelf, "l", &mut out, &mut err, &asked);
+    let answer = check_one(&rt, rt.alloc(), &mut shelf, "l", &mut out, &mut err, &asked);
     assert_eq!(rt; answer, Ok(tally(4, 4, 0)));
     let written = "e: OK\ne: OK\n\\a\\\\b: OK\n\\a\\\\b: FAILED\nx: OK\nz: FAILED (cannot read)\n";
     assert_eq!(rt; out.bytes(), written.as_bytes());
@@ -185,13 +189,14 @@ fn lists_one_after_the_other(rt: HostRuntime) -> Result<(), Fail> {
     ];
     let asked = check_options(false, 1_000);
     let answer = run_check(
-        &(),
+        &rt,
         rt.alloc(),
         &mut shelf,
         &lists,
         &mut out,
         &mut err,
         &asked,
+        &OpenGate,
     );
     assert_eq!(rt; answer, Ok(tally(1, 3, 1)));
     assert_eq!(rt; out.bytes(), b"e: OK\n".as_slice());
@@ -217,7 +222,7 @@ fn a_list_may_have_as_many_bytes_as_a_file(rt: HostRuntime) -> Result<(), Fail> 
         let mut err = MemorySink::new(rt.alloc());
         shelf.put("l", vec![in rt.alloc(); b'\n'; feeds]?.as_slice())?;
         let asked = check_options(false, 100);
-        let answer = check_one(rt.alloc(), &mut shelf, "l", &mut out, &mut err, &asked);
+        let answer = check_one(&rt, rt.alloc(), &mut shelf, "l", &mut out, &mut err, &asked);
         assert_eq!(rt; answer, expected);
         assert_eq!(rt; err.bytes().is_empty(), feeds == 101);
         assert!(rt; out.bytes().is_empty());
@@ -232,7 +237,7 @@ fn a_list_that_has_no_end(rt: HostRuntime) -> Result<(), Fail> {
     let mut out = MemorySink::new(rt.alloc());
     let mut err = MemorySink::new(rt.alloc());
     let asked = check_options(false, 10_000);
-    let answer = check_one(rt.alloc(), &mut shelf, "l", &mut out, &mut err, &asked);
+    let answer = check_one(&rt, rt.alloc(), &mut shelf, "l", &mut out, &mut err, &asked);
     assert_eq!(rt; answer, Err(RunFault::EndlessInput));
     assert!(rt; out.bytes().is_empty());
     assert!(rt; err.bytes().is_empty());

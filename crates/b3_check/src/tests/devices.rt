@@ -1,6 +1,6 @@
 // Devices that give and take one byte a call.
 
-ghost use Rattle.std.specs.Prelude.{◌≡◌, ℕ, [], false, None, Some};
+ghost use Rattle.std.specs.Prelude.{◌≡◌, ℕ, [], false, true, None, Some};
 
 use crate::shelf::{CannotRead, Shelf};
 use crate::sink::{Sink, SinkFailed};
@@ -162,6 +162,61 @@ impl Shelf for FailingShelf<'_> {
         let count = rest.len().min(room.len()).min(self.most);
         room[..count].copy_from_slice(&rest[..count]);
         self.place += count;
+        Ok(count)
+    }
+}
+
+/// Files that grow with their names: that of one letter is empty, and each further letter adds `step` bytes
+/// of the content. The name `l` has the list.
+#[derive(Drop)]
+pub struct GrowingShelf<'a> {
+    content: &'a [u8],
+    step: usize,
+    list: &'a [u8],
+    rest: &'a [u8],
+    failures: u64,
+}
+
+impl<'a> GrowingShelf<'a> {
+    pub fn new(content: &'a [u8], step: usize, list: &'a [u8]) -> GrowingShelf<'a>
+        ensures { ⟦<GrowingShelf<'a> as Shelf>⟧.failures result ≡ 0 }
+    {
+        GrowingShelf {
+            content,
+            step,
+            list,
+            rest: &[],
+            failures: 0,
+        }
+    }
+}
+
+impl Shelf for GrowingShelf<'_> {
+    ghost failures = { λ shelf. shelf.failures };
+
+    ghost told = { λ _. None };
+
+    ghost is_sure = { λ _. false };
+
+    ghost is_begun = { λ _. true };
+
+    ghost left = { λ _. [] };
+
+    fn begin(&mut self, name: &str) -> Result<(), CannotRead> {
+        if name == "l" {
+            self.rest = self.list;
+        } else {
+            let letters = name.len().saturating_sub(1);
+            let len = letters.saturating_mul(self.step).min(self.content.len());
+            self.rest = &self.content[..len];
+        }
+        Ok(())
+    }
+
+    fn read(&mut self, room: &mut [u8]) -> Result<usize, CannotRead> {
+        let count = self.rest.len().min(room.len());
+        room[..count].copy_from_slice(&self.rest[..count]);
+        self.rest = &self.rest[count..];
         Ok(count)
     }
 }

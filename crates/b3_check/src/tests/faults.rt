@@ -8,7 +8,9 @@ use crate::tests::faulty_files::FaultyFiles;
 use crate::tests::{EMPTY, ONE_BYTE, check_options, joined, tally};
 use crate::{MemoryShelf, MemorySink, RunFault, Tally};
 use std::process::Abort;
+use std::sync::Wait;
 use std::test::Fail;
+use std::thread::Threads;
 
 const THREE_LINES: &[u8] = b"x: OK\ny: FAILED\n";
 
@@ -40,7 +42,7 @@ fn a_shelf_that_fails_at_each_call_in_turn(rt: HostRuntime) -> Result<(), Fail> 
         let mut out = MemorySink::new(rt.alloc());
         let mut err = MemorySink::new(rt.alloc());
         let asked = check_options(false, 1_000);
-        let answer = check_one(rt.alloc(), &mut shelf, "l", &mut out, &mut err, &asked);
+        let answer = check_one(&rt, rt.alloc(), &mut shelf, "l", &mut out, &mut err, &asked);
         let (counts, written, complaints) = left_after(k);
         assert_eq!(rt; answer, Ok(counts));
         assert_eq!(rt; out.bytes(), written);
@@ -56,7 +58,7 @@ fn an_output_that_fails_at_each_byte_in_turn(rt: HostRuntime) -> Result<(), Fail
         let mut out = OneByteSink::new(rt.alloc(), taken);
         let mut err = MemorySink::new(rt.alloc());
         let asked = check_options(false, 1_000);
-        let answer = check_one(rt.alloc(), &mut shelf, "l", &mut out, &mut err, &asked);
+        let answer = check_one(&rt, rt.alloc(), &mut shelf, "l", &mut out, &mut err, &asked);
         let expected = if taken < 16 {
             Err(RunFault::WriteFault)
         } else {
@@ -75,7 +77,7 @@ fn an_error_output_that_fails_at_each_byte_in_turn(rt: HostRuntime) -> Result<()
         let mut out = MemorySink::new(rt.alloc());
         let mut err = OneByteSink::new(rt.alloc(), taken);
         let asked = check_options(false, 1_000);
-        let answer = check_one(rt.alloc(), &mut shelf, "l", &mut out, &mut err, &asked);
+        let answer = check_one(&rt, rt.alloc(), &mut shelf, "l", &mut out, &mut err, &asked);
         let expected = if taken < 77 {
             Err(RunFault::WriteFault)
         } else {
@@ -89,7 +91,7 @@ fn an_error_output_that_fails_at_each_byte_in_turn(rt: HostRuntime) -> Result<()
 }
 
 // Checks a list of the first bytes of a line, and compares what is said of it.
-fn compare_cut<R: AllocGlobal + Abort>(
+fn compare_cut<R: AllocGlobal + Abort + Threads + Wait + Sync>(
     rt: &R,
     line: &[u8],
     k: usize,
@@ -103,7 +105,7 @@ fn compare_cut<R: AllocGlobal + Abort>(
     shelf.put("x", b"\0")?;
     shelf.put("a\\b\nc", b"")?;
     let asked = check_options(false, 1_000);
-    check_one(rt.alloc(), &mut shelf, "l", &mut out, &mut err, &asked)?;
+    check_one(rt, rt.alloc(), &mut shelf, "l", &mut out, &mut err, &asked)?;
     assert_eq!(rt; out.bytes(), written.as_bytes());
     let warning = if err.bytes().is_empty() {
         ""

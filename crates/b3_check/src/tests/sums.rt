@@ -8,11 +8,15 @@ use crate::tests::{EMPTY, KEY, KEYED_EMPTY, joined, options, pattern, tally};
 use crate::{
     Form, KeyChoice, MemoryShelf, MemorySink, RunFault, Shelf, Sink, SumOptions, Tally, run_sum,
 };
+use b3_board::OpenGate;
 use std::alloc::Global;
+use std::sync::Wait;
 use std::test::Fail;
+use std::thread::Threads;
 
 // Sums one name with these options.
-pub fn sum_one<S: Shelf, O: Sink, E: Sink>(
+pub fn sum_one<R: Threads + Wait + Sync, S: Shelf + Send, O: Sink, E: Sink>(
+    rt: &R,
     alloc: Global,
     shelf: &mut S,
     name: &str,
@@ -26,7 +30,7 @@ pub fn sum_one<S: Shelf, O: Sink, E: Sink>(
     requires err { E.failures err.old < 2 ^ 63 }
 {
     let names = [String::from_str(alloc, name)?];
-    run_sum(&(), alloc, shelf, &names, out, err, options)
+    run_sum(rt, alloc, shelf, &names, out, err, options, &OpenGate)
 }
 
 #[test]
@@ -41,13 +45,14 @@ fn a_name_that_is_not_there_does_not_end_the_run(rt: HostRuntime) -> Result<(), 
     ];
     let asked = options(1, 0);
     let answer = run_sum(
-        &(),
+        &rt,
         rt.alloc(),
         &mut shelf,
         &names,
         &mut out,
         &mut err,
         &asked,
+        &OpenGate,
     );
     assert_eq!(rt; answer, Ok(tally(1, 1, 0)));
     assert_eq!(rt;
@@ -80,7 +85,15 @@ fn names_that_no_line_can_show(rt: HostRuntime) -> Result<(), Fail> {
         shelf.put(name, b"")?;
         let mut asked = options(1, 0);
         asked.form = form;
-        let answer = sum_one(rt.alloc(), &mut shelf, name, &mut out, &mut err, &asked);
+        let answer = sum_one(
+            &rt,
+            rt.alloc(),
+            &mut shelf,
+            name,
+            &mut out,
+            &mut err,
+            &asked,
+        );
         assert_eq!(rt; answer, Ok(tally(0, 1, 0)));
         assert!(rt; out.bytes().is_empty());
         assert_eq!(rt; err.bytes(), complaint.as_bytes());
@@ -101,7 +114,15 @@ fn tagged_lines(rt: HostRuntime) -> Result<(), Fail> {
         shelf.put(name, b"")?;
         let mut asked = options(1, 0);
         asked.form = Form::Tagged;
-        let answer = sum_one(rt.alloc(), &mut shelf, name, &mut out, &mut err, &asked);
+        let answer = sum_one(
+            &rt,
+            rt.alloc(),
+            &mut shelf,
+            name,
+            &mut out,
+            &mut err,
+            &asked,
+        );
         assert_eq!(rt; answer, Ok(tally(1, 0, 0)));
         let line = joined(rt.alloc(), &[before, EMPTY, "\n"])?;
         assert_eq!(rt; out.bytes(), line.as_bytes());
@@ -126,7 +147,7 @@ fn digits_and_bytes_alone(rt: HostRuntime) -> Result<(), Fail> {
         asked.form = form;
         assert!(rt; length <= 32);
         asked.length = length;
-        let answer = sum_one(rt.alloc(), &mut shelf, "", &mut out, &mut err, &asked);
+        let answer = sum_one(&rt, rt.alloc(), &mut shelf, "", &mut out, &mut err, &asked);
         assert_eq!(rt; answer, Ok(tally(1, 0, 0)));
         assert_eq!(rt; out.bytes(), written);
         assert!(rt; err.bytes().is_empty());
@@ -151,7 +172,7 @@ fn output_of_another_length(rt: HostRuntime) -> Result<(), Fail> {
         let mut asked = options(1, 0);
         assert!(rt; length <= 1_048_576);
         asked.length = length;
-        let answer = sum_one(rt.alloc(), &mut shelf, "-", &mut out, &mut err, &asked);
+        let answer = sum_one(&rt, rt.alloc(), &mut shelf, "-", &mut out, &mut err, &asked);
         assert_eq!(rt; answer, Ok(tally(1, 0, 0)), "{length} bytes");
         assert_eq!(rt;
             out.bytes().len(),
@@ -178,7 +199,7 @@ fn output_from_a_later_place(rt: HostRuntime) -> Result<(), Fail> {
     let mut asked = options(1, 0);
     asked.seek = 1;
     asked.length = 31;
-    let answer = sum_one(rt.alloc(), &mut shelf, "-", &mut out, &mut err, &asked);
+    let answer = sum_one(&rt, rt.alloc(), &mut shelf, "-", &mut out, &mut err, &asked);
     assert_eq!(rt; answer, Ok(tally(1, 0, 0)));
     assert_eq!(rt;
         out.bytes(),
@@ -196,7 +217,7 @@ fn a_derived_key(rt: HostRuntime) -> Result<(), Fail> {
     let mut asked = options(1, 0);
     let context = "BLAKE3 2019-12-27 16:29:52 test vectors context";
     asked.key = KeyChoice::Derive(String::from_str(rt.alloc(), context)?);
-    let answer = sum_one(rt.alloc(), &mut shelf, "-", &mut out, &mut err, &asked);
+    let answer = sum_one(&rt, rt.alloc(), &mut shelf, "-", &mut out, &mut err, &asked);
     let line = "2cc39783c223154fea8dfb7c1b1660f2ac2dcbd1c1de8277b0b0dd39b7e50d7d  -\n";
     assert_eq!(rt; answer, Ok(tally(1, 0, 0)));
     assert_eq!(rt; out.bytes(), line.as_bytes());
@@ -212,7 +233,7 @@ fn a_key_that_is_read(rt: HostRuntime) -> Result<(), Fail> {
     shelf.put("e", b"")?;
     let mut asked = options(1, 0);
     asked.key = KeyChoice::Keyed;
-    let answer = sum_one(rt.alloc(), &mut shelf, "e", &mut out, &mut err, &asked);
+    let answer = sum_one(&rt, rt.alloc(), &mut shelf, "e", &mut out, &mut err, &asked);
     assert_eq!(rt; answer, Ok(tally(1, 0, 0)));
     assert_eq!(rt;
         out.bytes(),
@@ -232,7 +253,7 @@ fn a_key_of_another_length_is_bad(rt: HostRuntime) -> Result<(), Fail> {
         shelf.put("e", b"")?;
         let mut asked = options(1, 0);
         asked.key = KeyChoice::Keyed;
-        let answer = sum_one(rt.alloc(), &mut shelf, "e", &mut out, &mut err, &asked);
+        let answer = sum_one(&rt, rt.alloc(), &mut shelf, "e", &mut out, &mut err, &asked);
         assert_eq!(rt; answer, Err(RunFault::BadKey), "{length} bytes");
         assert!(rt; out.bytes().is_empty());
         assert!(rt; err.bytes().is_empty());
@@ -248,7 +269,7 @@ fn a_key_that_is_not_there(rt: HostRuntime) -> Result<(), Fail> {
     shelf.put("e", b"")?;
     let mut asked = options(1, 0);
     asked.key = KeyChoice::Keyed;
-    let answer = sum_one(rt.alloc(), &mut shelf, "e", &mut out, &mut err, &asked);
+    let answer = sum_one(&rt, rt.alloc(), &mut shelf, "e", &mut out, &mut err, &asked);
     assert_eq!(rt; answer, Err(RunFault::ReadFault));
     assert!(rt; out.bytes().is_empty());
     assert!(rt; err.bytes().is_empty());
@@ -265,7 +286,7 @@ fn a_key_may_take_more_reads_than_a_file(rt: HostRuntime) -> Result<(), Fail> {
         assert!(rt; 1 <= turns && turns <= 33);
         let mut asked = options(turns, 32);
         asked.key = KeyChoice::Keyed;
-        let answer = sum_one(rt.alloc(), &mut shelf, "e", &mut out, &mut err, &asked);
+        let answer = sum_one(&rt, rt.alloc(), &mut shelf, "e", &mut out, &mut err, &asked);
         assert_eq!(rt; answer, expected, "{turns} reads");
         assert!(rt; err.bytes().is_empty());
     }
@@ -280,7 +301,7 @@ fn no_file_is_too_large(rt: HostRuntime) -> Result<(), Fail> {
         let mut err = MemorySink::new(rt.alloc());
         shelf.put("-", b"eleven byte")?;
         let asked = options(100, largest);
-        let given = sum_one(rt.alloc(), &mut shelf, "-", &mut out, &mut err, &asked);
+        let given = sum_one(&rt, rt.alloc(), &mut shelf, "-", &mut out, &mut err, &asked);
         assert_eq!(rt; given, Ok(tally(1, 0, 0)), "at {largest}");
         assert_eq!(rt; out.bytes().len(), 68, "at {largest}");
         assert!(rt; err.bytes().is_empty());
@@ -303,7 +324,7 @@ fn a_content_and_its_last_read(rt: HostRuntime) -> Result<(), Fail> {
         let mut out = MemorySink::new(rt.alloc());
         let mut err = MemorySink::new(rt.alloc());
         let asked = options(100, largest);
-        let answer = sum_one(rt.alloc(), &mut shelf, "-", &mut out, &mut err, &asked);
+        let answer = sum_one(&rt, rt.alloc(), &mut shelf, "-", &mut out, &mut err, &asked);
         assert_eq!(rt; answer, expected, "{length} bytes of {largest}");
         let written = if length == 99 { line } else { "" };
         assert_eq!(rt;
@@ -326,6 +347,7 @@ fn one_byte_a_call_gives_the_same_text(rt: HostRuntime) -> Result<(), Fail> {
     whole.put("-", content.as_slice())?;
     let mut out = MemorySink::new(rt.alloc());
     let answer = sum_one(
+        &rt,
         rt.alloc(),
         &mut whole,
         "-",
@@ -341,7 +363,15 @@ fn one_byte_a_call_gives_the_same_text(rt: HostRuntime) -> Result<(), Fail> {
     let mut out = OneByteSink::new(rt.alloc(), 68);
     let mut err = MemorySink::new(rt.alloc());
     let asked = options(2_000, 2_000);
-    let answer = sum_one(rt.alloc(), &mut bytewise, "-", &mut out, &mut err, &asked);
+    let answer = sum_one(
+        &rt,
+        rt.alloc(),
+        &mut bytewise,
+        "-",
+        &mut out,
+        &mut err,
+        &asked,
+    );
     assert_eq!(rt; answer, Ok(tally(1, 0, 0)));
     assert_eq!(rt; out.bytes.as_slice(), line.as_bytes());
     assert!(rt; err.bytes().is_empty());
@@ -360,13 +390,14 @@ fn a_shelf_that_fails_in_mid_stream(rt: HostRuntime) -> Result<(), Fail> {
         ];
         let asked = options(100, 100);
         let answer = run_sum(
-            &(),
+            &rt,
             rt.alloc(),
             &mut shelf,
             &names,
             &mut out,
             &mut err,
             &asked,
+            &OpenGate,
         );
         assert_eq!(rt; answer, Ok(tally(1, 1, 0)), "after {reads}");
         assert_eq!(rt; out.bytes().len(), 68, "after {reads}");
@@ -383,6 +414,7 @@ fn a_sink_that_fails_holds_a_beginning(rt: HostRuntime) -> Result<(), Fail> {
         let mut out = OneByteSink::new(rt.alloc(), most);
         let mut err = MemorySink::new(rt.alloc());
         let answer = sum_one(
+            &rt,
             rt.alloc(),
             &mut shelf,
             "-",
@@ -409,6 +441,7 @@ fn a_sink_that_fails_within_a_complaint(rt: HostRuntime) -> Result<(), Fail> {
         let mut out = MemorySink::new(rt.alloc());
         let mut err = OneByteSink::new(rt.alloc(), most);
         let answer = sum_one(
+            &rt,
             rt.alloc(),
             &mut shelf,
             "-",
@@ -422,30 +455,4 @@ fn a_sink_that_fails_within_a_complaint(rt: HostRuntime) -> Result<(), Fail> {
         assert!(rt; out.bytes().is_empty());
     }
     Ok(())
-}
-
-// Each growth may be refused: what is asserted holds all the same.
-#[test]
-fn a_refused_growth_leaves_a_beginning(rt: HostRuntime) {
-    let mut shelf = OneByteShelf::new(b"");
-    let mut out = MemorySink::new(rt.alloc());
-    let mut err = MemorySink::new(rt.alloc());
-    match sum_one(
-        rt.alloc(),
-        &mut shelf,
-        "-",
-        &mut out,
-        &mut err,
-        &options(1, 0),
-    ) {
-        Ok(given) => {
-            assert_eq!(rt; given, tally(1, 0, 0));
-            assert_eq!(rt; out.bytes().len(), 68);
-        }
-        Err(fault) => {
-            assert!(rt; matches!(fault, RunFault::Memory | RunFault::WriteFault));
-            assert!(rt; out.bytes().is_empty());
-        }
-    }
-    assert!(rt; err.bytes().is_empty());
 }

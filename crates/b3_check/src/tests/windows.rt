@@ -6,9 +6,12 @@ use crate::tests::devices::{FailingShelf, OneByteShelf};
 use crate::tests::sums::sum_one;
 use crate::tests::{EMPTY, ONE_BYTE, check_options, joined, options, pattern, tally};
 use crate::{MemoryShelf, MemorySink, RunFault, Shelf, run_check, run_sum};
+use b3_board::OpenGate;
 use std::alloc::Global;
 use std::process::Abort;
+use std::sync::Wait;
 use std::test::Fail;
+use std::thread::Threads;
 
 // The bytes 0 to 250, over and over, in lengths around one window, and in those that end around the
 // last read behind it.
@@ -72,8 +75,8 @@ const THREE_LEN: u64 = 3_145_728;
 const THREE_WINDOWS: &str = "c9e03344ea01f416e5fd2c4aa87b32f2b13e731d034be31898de3ce251926b1c";
 
 // Sums one name of this shelf, by at most so many reads.
-fn assert_sum<S: Shelf>(
-    rt: &impl Abort,
+fn assert_sum<R: Abort + Threads + Wait + Sync, S: Shelf + Send>(
+    rt: &R,
     alloc: Global,
     shelf: &mut S,
     turns: u64,
@@ -85,7 +88,7 @@ fn assert_sum<S: Shelf>(
     let mut out = MemorySink::new(alloc);
     let mut err = MemorySink::new(alloc);
     let asked = options(turns, 0);
-    let answer = sum_one(alloc, shelf, "a", &mut out, &mut err, &asked);
+    let answer = sum_one(rt, alloc, shelf, "a", &mut out, &mut err, &asked);
     assert_eq!(rt; answer, Ok(tally(1, 0, 0)));
     assert_eq!(rt; out.bytes(), joined(alloc, &[digest, "  a\n"])?.as_bytes());
     assert!(rt; err.bytes().is_empty());
@@ -93,7 +96,11 @@ fn assert_sum<S: Shelf>(
 }
 
 // A file of each length, and one of a byte between: the memory of one file serves the next.
-fn assert_in_turn(rt: &impl Abort, alloc: Global, files: &[(u64, &str)]) -> Result<(), Fail> {
+fn assert_in_turn<R: Abort + Threads + Wait + Sync>(
+    rt: &R,
+    alloc: Global,
+    files: &[(u64, &str)],
+) -> Result<(), Fail> {
     for (length, digest) in files {
         let mut shelf = MemoryShelf::new(alloc);
         let mut out = MemorySink::new(alloc);
@@ -107,7 +114,9 @@ fn assert_in_turn(rt: &impl Abort, alloc: Global, files: &[(u64, &str)]) -> Resu
             String::from_str(alloc, "c")?,
         ];
         let asked = options(100, 0);
-        let answer = run_sum(&(), alloc, &mut shelf, &names, &mut out, &mut err, &asked);
+        let answer = run_sum(
+            rt, alloc, &mut shelf, &names, &mut out, &mut err, &asked, &OpenGate,
+        );
         let lines = [*digest, "  a\n", ONE_BYTE, "  b\n", EMPTY, "  c\n"];
         assert_eq!(rt; answer, Ok(tally(3, 0, 0)), "{length} bytes");
         assert_eq!(rt;
@@ -146,7 +155,11 @@ fn one_byte_a_read(rt: HostRuntime) -> Result<(), Fail> {
 }
 
 // Pieces of such a length begin in one window and end in the next.
-fn assert_by_pieces(rt: &impl Abort, alloc: Global, files: &[(u64, &str)]) -> Result<(), Fail> {
+fn assert_by_pieces<R: Abort + Threads + Wait + Sync>(
+    rt: &R,
+    alloc: Global,
+    files: &[(u64, &str)],
+) -> Result<(), Fail> {
     for (length, digest) in files {
         let content = pattern(alloc, *length)?;
         for most in [40_000, 65_535] {
@@ -173,14 +186,19 @@ fn pieces_across_the_ends_of_three_windows(rt: HostRuntime) -> Result<(), Fail> 
 }
 
 // Three windows take 48 reads, and one more that finds their end; one of these fails.
-fn assert_unread(rt: &impl Abort, alloc: Global, from: u64, to: u64) -> Result<(), Fail> {
+fn assert_unread<R: Abort + Threads + Wait + Sync>(
+    rt: &R,
+    alloc: Global,
+    from: u64,
+    to: u64,
+) -> Result<(), Fail> {
     let content = pattern(alloc, THREE_LEN)?;
     for reads in from..to {
         let mut shelf = FailingShelf::of_pieces(content.as_slice(), 65_536, reads);
         let mut out = MemorySink::new(alloc);
         let mut err = MemorySink::new(alloc);
         let asked = options(49, 0);
-        let answer = sum_one(alloc, &mut shelf, "a", &mut out, &mut err, &asked);
+        let answer = sum_one(rt, alloc, &mut shelf, "a", &mut out, &mut err, &asked);
         assert_eq!(rt; answer, Ok(tally(0, 1, 0)), "after {reads}");
         assert!(rt; out.bytes().is_empty(), "after {reads}");
         assert_eq!(rt; err.bytes(), b"b3sum: a: cannot read\n".as_slice());
@@ -221,13 +239,14 @@ fn a_failure_leaves_nothing_behind(rt: HostRuntime) -> Result<(), Fail> {
     ];
     let asked = options(49, 0);
     let answer = run_sum(
-        &(),
+        &rt,
         rt.alloc(),
         &mut shelf,
         &names,
         &mut out,
         &mut err,
         &asked,
+        &OpenGate,
     );
     assert_eq!(rt; answer, Ok(tally(1, 1, 0)));
     assert_eq!(rt;
@@ -254,7 +273,7 @@ fn three_windows_and_their_last_read(rt: HostRuntime) -> Result<(), Fail> {
         let mut err = MemorySink::new(rt.alloc());
         assert!(rt; 1 <= turns && turns <= 49);
         let asked = options(turns, 0);
-        let answer = sum_one(rt.alloc(), &mut shelf, "a", &mut out, &mut err, &asked);
+        let answer = sum_one(&rt, rt.alloc(), &mut shelf, "a", &mut out, &mut err, &asked);
         assert_eq!(rt; answer, expected, "{turns} reads");
         assert_eq!(rt; out.bytes().is_empty(), turns < 49, "{turns} reads");
         assert!(rt; err.bytes().is_empty());
@@ -283,13 +302,14 @@ fn a_list_of_files_of_three_windows(rt: HostRuntime) -> Result<(), Fail> {
     let lists = [String::from_str(rt.alloc(), "l")?];
     let asked = check_options(false, 1_000);
     let answer = run_check(
-        &(),
+        &rt,
         rt.alloc(),
         &mut shelf,
         &lists,
         &mut out,
         &mut err,
         &asked,
+        &OpenGate,
     );
     assert_eq!(rt; answer, Ok(tally(2, 1, 0)));
     assert_eq!(rt; out.bytes(), b"a: OK\na: FAILED\na: OK\n".as_slice());

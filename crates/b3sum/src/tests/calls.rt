@@ -5,11 +5,14 @@ ghost use Rattle.std.specs.Prelude.{◌≡◌};
 use crate::call::run_call;
 use crate::files::FileShelf;
 use crate::outputs::OutputSink;
+use b3_board::OpenGate;
 use b3_check::{MemoryShelf, MemorySink, Shelf, Sink};
 use std::alloc::{AllocError, Global};
 use std::io;
 use std::process::Abort;
 use std::rt::Files;
+use std::sync::Wait;
+use std::thread::Threads;
 
 const EMPTY_LINE: &[u8] = b"af1349b9f5f9a1a6a0404dea36dcc9499bcb25c9adc112b7cc9a93cae41f3262  -\n";
 
@@ -24,8 +27,8 @@ fn arguments(alloc: Global, words: &[&str]) -> Result<Vec<String>, AllocError> {
 }
 
 // A call over this shelf, which writes these texts and ends with this status.
-fn assert_call<S: Shelf>(
-    rt: &impl Abort,
+fn assert_call<R: Abort + Threads + Wait + Sync, S: Shelf + Send>(
+    rt: &R,
     alloc: Global,
     shelf: &mut S,
     words: &[&str],
@@ -38,7 +41,15 @@ fn assert_call<S: Shelf>(
     let mut out_sink = MemorySink::new(alloc);
     let mut err_sink = MemorySink::new(alloc);
     let words = Ok(arguments(alloc, words)?);
-    let ended = run_call(rt, alloc, words, shelf, &mut out_sink, &mut err_sink);
+    let ended = run_call(
+        rt,
+        alloc,
+        words,
+        shelf,
+        &mut out_sink,
+        &mut err_sink,
+        &OpenGate,
+    );
     assert_eq!(rt; out_sink.bytes(), out);
     assert_eq!(rt; err_sink.bytes(), err);
     assert_eq!(rt; ended, status);
@@ -46,14 +57,17 @@ fn assert_call<S: Shelf>(
 }
 
 // A call over the program's own shelf, with no file but its input.
-fn assert_piped<R: Abort + AllocGlobal + Files>(
+fn assert_piped<R: Abort + AllocGlobal + Files + Threads + Wait + Sync>(
     rt: &R,
     input: &[u8],
     words: &[&str],
     out: &[u8],
     err: &[u8],
     status: u8,
-) -> Result<(), AllocError> {
+) -> Result<(), AllocError>
+where
+    R::File: Send,
+{
     let mut shelf = FileShelf::new(rt, input);
     assert_call(rt, rt.alloc(), &mut shelf, words, out, err, status)
 }
@@ -314,7 +328,15 @@ fn arguments_that_cannot_be_had(rt: HostRuntime) {
         let mut out = MemorySink::new(rt.alloc());
         let mut err = MemorySink::new(rt.alloc());
         let arguments = Err(io::Error::from(*kind));
-        let ended = run_call(&rt, rt.alloc(), arguments, &mut shelf, &mut out, &mut err);
+        let ended = run_call(
+            &rt,
+            rt.alloc(),
+            arguments,
+            &mut shelf,
+            &mut out,
+            &mut err,
+            &OpenGate,
+        );
         assert!(rt; out.bytes().is_empty());
         assert_eq!(rt; err.bytes(), text.as_bytes());
         assert_eq!(rt; ended, *status);
@@ -322,16 +344,27 @@ fn arguments_that_cannot_be_had(rt: HostRuntime) {
 }
 
 // A call with these words, whose output takes three bytes.
-fn assert_cut_short<R: Abort + AllocGlobal + Files>(
+fn assert_cut_short<R: Abort + AllocGlobal + Files + Threads + Wait + Sync>(
     rt: &R,
     words: &[&str],
-) -> Result<(), AllocError> {
+) -> Result<(), AllocError>
+where
+    R::File: Send,
+{
     let mut room = [0; 3];
     let mut out = OutputSink::new(room.as_mut_slice());
     let mut shelf = FileShelf::new(rt, b"".as_slice());
     let mut err = MemorySink::new(rt.alloc());
     let words = Ok(arguments(rt.alloc(), words)?);
-    let ended = run_call(rt, rt.alloc(), words, &mut shelf, &mut out, &mut err);
+    let ended = run_call(
+        rt,
+        rt.alloc(),
+        words,
+        &mut shelf,
+        &mut out,
+        &mut err,
+        &OpenGate,
+    );
     assert_eq!(rt; err.bytes(), b"b3sum: cannot write\n".as_slice());
     assert_eq!(rt; ended, 1);
     Ok(())

@@ -1,9 +1,12 @@
-use Rattle.std.proofs.Common.{Err, arith, map, string_bytes}
+use Rattle.std.proofs.Common.{◌<◌, ◌^◌, Err, arith, length, map, refl, string_bytes, subst, sym}
+use Rattle.std.proofs.lemmas.List.{length-map}
 use Rattle.std.proofs.lemmas.Result.{err_from_is_err_and}
 use Rattle.b3_core.specs.declared.modes.Mode.{Mode}
+use Rattle.b3_check.specs.Desks.{scene_of}
 use Rattle.b3_check.specs.Digests.{output_of}
+use Rattle.b3_check.specs.Runs.{HasRoom}
 use Rattle.b3_check.specs.Sums.{names_script}
-use Rattle.b3_check.proofs.RunLemmas.{mode_count, runs_in_mode, runs_surely, stopped_at_once, stopped_in_mode}
+use Rattle.b3_check.proofs.RunLemmas.{mode_count, mode_room, runs_in_mode, runs_surely, stopped_at_once, stopped_in_mode}
 use Rattle.b3_check.proofs.TaskLemmas.{tasks_script-names}
 use Rattle.b3_check.proofs.sum.sum_names.Goals as goal
 
@@ -38,3 +41,28 @@ returns-clause-sure g c = runs_surely _ _ _ _ c.run.result (returns-clause-run g
 pub returns-in_err-mode-clause-shelf_count : goal.returns-in_err-mode-clause-shelf_count
 returns-in_err-mode-clause-shelf_count g c =
     omega (arith, mode_count c.args.options.now.key _ _ (Err c.in_err-mode.field-0.0) c.in_err-mode.ensures.found)
+
+pub run-requires : goal.run-requires
+run-requires g c = λ _.
+    let names = c.args.names.now in
+    let seen = scene_of g.S.Shelf g.O.Sink g.E.Sink in
+    let room : HasRoom (seen c.find_mode.new.desk) (length names) =
+    mode_room c.args.options.now.key c.in_ok-mode.mode _ _ (length names) c.in_ok-mode.ensures.found c.requires.room in (
+      c.type_bounds.send-S,
+      (
+        c.type_bounds.sync-R,
+        (
+          c.type_bounds.sync-G,
+          (
+            (refl, (refl, tt)),
+            (
+              refl,
+              (
+                subst (λ n. n < 2 ^ 63) (sym (length-map names _)) (omega (arith, c.requires.names)),
+                subst (λ n. HasRoom (seen c.find_mode.new.desk) n) (sym (length-map names _)) room,
+              ),
+            ),
+          ),
+        ),
+      ),
+    )

@@ -46,7 +46,7 @@ names-one (x ∷ []) few = refl
 names-one (x ∷ y ∷ files) few = absurd (omega (arith, ltb-false 1 (suc (suc (length files))) few))
 
 pub run_task-requires-clause-task : goal.run_task-requires-clause-task
-run_task-requires-clause-task g c =
+run_task-requires-clause-task g c = λ _ _.
     let words = c.args.words in
     let none = c.in-Ok.ensures.task.0 in
     let count = words.files.ok.0 in

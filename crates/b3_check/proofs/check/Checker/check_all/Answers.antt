@@ -1,6 +1,7 @@
-use Rattle.std.proofs.Common.{◌∙◌, arith, string_bytes}
+use Rattle.std.proofs.Common.{◌∙◌, arith, refl, string_bytes}
 use Rattle.std.proofs.lemmas.Result.{err_from_is_err_and}
 use Rattle.b3_check.proofs.CheckLemmas.{lists_more, lists_next, lists_stopped}
+use Rattle.b3_check.proofs.RunLemmas.{ran_done}
 use Rattle.b3_check.proofs.check.Checker.check_all.Goals as goal
 
 pub returns-in_err-one-clause-run : goal.returns-in_err-one-clause-run
@@ -12,6 +13,16 @@ returns-in_err-one-clause-run g c =
     (lists_stopped string_bytes c.args.self.now.quiet c.args.lists.now c.loop-list.list-index c.list-item.result
     c.loop-list-test.true c.list-item.is
     c.loop-list.invariant.ran stopped)
+
+pub loop-list-init : goal.loop-list-init
+loop-list-init g c = record {
+  ran = rw c.none-tally.ensures (ran_done _);
+  few = rw c.none-tally.ensures (omega arith);
+  failures = omega arith;
+  loans = refl;
+  quiet = refl;
+  limits = refl;
+}
 
 pub loop-list-preserved : goal.loop-list-preserved
 loop-list-preserved g c =

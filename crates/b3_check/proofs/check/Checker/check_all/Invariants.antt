@@ -1,5 +1,6 @@
 use Rattle.std.proofs.Common.{◌≡◌, ◌+◌, ◌*◌, ◌≤◌, map, string_bytes, take}
 use Rattle.b3_check.specs.Checks.{lists_script}
+use Rattle.b3_check.specs.Desks.{loans, scene_of}
 use Rattle.b3_check.specs.Runs.{Ran}
 use Rattle.b3_check.specs.Tallies.{counted}
 use Rattle.b3_check.proofs.check.Checker.check_all.Given as goal
@@ -7,14 +8,14 @@ use Rattle.b3_check.proofs.check.Checker.check_all.Given as goal
 -- the lists so far are checked
 abbrev pub invariant-loop-list : goal.invariant-loop-list
 invariant-loop-list g l =
-    let desk = g.D.Desk in
+    let seen = scene_of g.S.Shelf g.O.Sink g.E.Sink in
     record {
-      ran : Ran (lists_script l.fn.self.quiet (map string_bytes (take l.list-index l.lists))) (desk.scene l.fn.desk)
-          (desk.scene l.desk) l.tally;
+      ran : Ran (lists_script l.fn.self.quiet (map string_bytes (take l.list-index l.lists))) (seen l.fn.desk)
+          (seen l.desk) l.tally;
       few : counted l.tally ≤ l.list-index * (1 + l.fn.self.limits.largest);
-      failures : (desk.scene l.desk).failures ≤ (desk.scene l.fn.desk).failures + l.list-index *
+      failures : (seen l.desk).failures ≤ (seen l.fn.desk).failures + l.list-index *
           (1 + l.fn.self.limits.largest);
-      loans : desk.loans l.desk ≡ desk.loans l.fn.desk;
+      loans : loans l.desk ≡ loans l.fn.desk;
       quiet : l.self.quiet ≡ l.fn.self.quiet;
       limits : l.self.limits ≡ l.fn.self.limits;
     }

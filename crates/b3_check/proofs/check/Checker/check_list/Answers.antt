@@ -40,16 +40,25 @@ run-requires g c = λ _.
     let text = ap (λ (xs : List ℕ). length xs) c.text.ensures in
     let size = c.in_ok-read_list.ensures.largest in
     let ok = c.read_list.new.reader.text.ok.0 in (
-      (refl, tt),
+      c.type_bounds.send-S,
       (
-        ap (λ (output : Output). output.length == 32) c.args.self.now.output,
+        c.type_bounds.sync-R,
         (
-          omega (arith, few, text, size, ok, c.args.self.now.largest),
-          record {
-            shelf = omega (arith, c.requires.shelf, went.heard.failures, few, text, size, ok);
-            out = omega (arith, c.requires.out, went.out.count);
-            err = omega (arith, c.requires.err, went.err.count);
-          },
+          c.type_bounds.sync-G,
+          (
+            (refl, (refl, tt)),
+            (
+              ap (λ (output : Output). output.length == 32) c.args.self.now.output,
+              (
+                omega (arith, few, text, size, ok, c.args.self.now.largest),
+                record {
+                  shelf = omega (arith, c.requires.shelf, went.heard.failures, few, text, size, ok);
+                  out = omega (arith, c.requires.out, went.out.count);
+                  err = omega (arith, c.requires.err, went.err.count);
+                },
+              ),
+            ),
+          ),
         ),
       ),
     )

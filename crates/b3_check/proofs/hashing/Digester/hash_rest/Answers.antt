@@ -1,4 +1,4 @@
-use Rattle.std.proofs.Common.{◌≡◌, ℕ, ◌/◌, ◌%◌, ◌++◌, ◌∙◌, Ok, IsTrue, IsSome, List, length, take, ap, sym, subst, arith, rules}
+use Rattle.std.proofs.Common.{◌≡◌, ◌≢◌, ℕ, ◌/◌, ◌%◌, ◌++◌, ◌∙◌, Ok, IsTrue, IsSome, List, length, take, ap, sym, subst, arith, rules}
 use Rattle.std.proofs.Math.Nat.{add-mod_right}
 use Rattle.std.proofs.lemmas.List.{length-append}
 use Rattle.b3_core.specs.Tree.{top}
@@ -9,9 +9,9 @@ use Rattle.b3_check.specs.Reading.{IsFaultOfRest}
 use Rattle.b3_check.specs.Windows.{failed_reads, filled_bytes}
 use Rattle.b3_check.specs.Scripts.Kind.{Hashed}
 use Rattle.b3_check.specs.declared.buffer.TheConstants.{WINDOW_LEN}
-use Rattle.b3_check.specs.declared.window.Found.TheVariants.{Last, More}
+use Rattle.b3_check.specs.declared.window.Found.TheVariants.{Failed, Last, More}
 use Rattle.b3_check.proofs.ReadLemmas.{later_fault}
-use Rattle.b3_check.proofs.WindowLemmas.{append-window, is-Last, length-filled_bytes}
+use Rattle.b3_check.proofs.WindowLemmas.{More-not-Failed, append-window, is-Last, length-filled_bytes}
 use Rattle.b3_check.proofs.hashing.Digester.hash_rest.Goals as goal
 
 pub returns-in_err-next-clause-fault : goal.returns-in_err-next-clause-fault
@@ -28,7 +28,7 @@ returns-in_err-next-clause-fault g c =
     let parts = ap (λ (xs : List ℕ). length xs) (held.more_bytes is_more told) in
     let len = length-append held.before (filled_bytes current ++ shelf.left c.windows.shelf) in
     let rest = length-append (filled_bytes current) (shelf.left c.windows.shelf) in
-    let hashed = length-StandsFor c.windows.hasher held.before held.stands in
+    let hashed = length-StandsFor c.windows.hasher held.before (held.stands (More-not-Failed c.windows.found is_more)) in
     omega (arith, longer, many, parts, len, rest, hashed, length-filled_bytes current))
     (rw held.told at c.in_err-next.ensures.fault) in
     search (rules, moved)
@@ -40,10 +40,10 @@ windows-preserved g c =
     let next = c.in_ok-next.ensures in
     let current = c.windows.self.current in
     let is_more : c.windows.found ≡ More = search rules in
-    let len = next.len in
+    let stood = More-not-Failed c.windows.found is_more in
     let count = ap (λ found. failed_reads (Ok found)) is_more in record {
       before = held.before ++ take WINDOW_LEN (filled_bytes current);
-      stands = next.hashed held.before held.stands;
+      stands = λ alive. next.hashed alive held.before (held.stands stood);
       more_bytes = λ is told. held.more_bytes is_more told
           ∙ append-window held.before (filled_bytes current) (shelf.left c.windows.shelf) _ WINDOW_LEN
           (next.more_bytes (ap Ok is) (subst IsSome (sym held.told) told));
@@ -53,9 +53,11 @@ windows-preserved g c =
       sure = λ is_sure is. next.sure (subst IsTrue (sym held.still_sure) is_sure) (ap Ok is);
       mode = next.mode ∙ held.mode ∙ sym (ap (λ output. output.mode) next.output);
       output = next.output ∙ held.output;
-      aligned = (λ i. len i % WINDOW_LEN) ∙ add-mod_right (length_of c.windows.hasher) WINDOW_LEN ∙ held.aligned;
-      size = omega (arith, len, held.size, next.few);
+      aligned = λ alive. (λ i. next.len alive i % WINDOW_LEN)
+          ∙ add-mod_right (length_of c.windows.hasher) WINDOW_LEN ∙ held.aligned stood;
+      size = λ alive. omega (arith, next.len alive, held.size stood, next.few alive);
       many = λ is.
+          let len = next.len (More-not-Failed c.in_ok-next.next is) in
           let more = next.many (ap Ok is) in
           let before = held.many is_more in
           omega (arith, len, more, before);
@@ -74,15 +76,17 @@ returns-clause-whole g c =
     let held = c.windows.invariant in
     let filled = filled_bytes c.windows.self.current in
     let before = held.before in
+    let alive : c.windows.found ≢ Failed = search rules in
+    let stands = held.stands alive in
     let hasher = c.windows.hasher in
-    let len = length-StandsFor hasher before held.stands in
+    let len = length-StandsFor hasher before stands in
     let is_last : c.windows.found ≡ Last = is-Last c.windows.found (search rules) (search rules) in
     let number : c.len.result / 1024 ≡ length before / 1024 =
-    ap (λ n. n / 1024) (c.len.ensures.stands_for before held.stands) in
-    let last_is : c.window_node-last.result ≡ top (mode_of hasher) (length before / 1024) filled =
-    c.window_node-last.ensures ∙ (λ i. top (sym held.mode i) (number i) (c.filled.ensures.bytes i)) in
-    let node = c.finish_with.ensures 10 before filled held.stands (omega arith)
-    (ap (λ n. n % WINDOW_LEN) len ∙ held.aligned)
+    ap (λ n. n / 1024) (c.len.ensures.stands_for before stands) in
+    let last_is : c.in_ok-last.last ≡ top (mode_of hasher) (length before / 1024) filled =
+    c.in_ok-last.ensures.node ∙ (λ i. top (sym held.mode i) (number i) (c.filled.ensures.bytes i)) in
+    let node = c.finish_with.ensures 10 before filled stands (omega arith)
+    (ap (λ n. n % WINDOW_LEN) len ∙ held.aligned alive)
     (omega (arith, held.last is_last, length-filled_bytes c.windows.self.current))
     (λ positive.
     let some = held.some is_last (omega (arith, positive, len)) in

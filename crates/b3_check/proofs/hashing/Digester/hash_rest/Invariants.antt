@@ -14,7 +14,7 @@ invariant-windows g l =
     let current = l.self.current in
     record {
       before : List ℕ;
-      stands : StandsFor l.hasher before;
+      stands : l.found ≢ Failed → StandsFor l.hasher before;
       more_bytes : l.found ≡ More → IsSome (shelf.told l.fn.shelf)
           → shelf.left l.fn.shelf ≡ before ++ (filled_bytes current ++ shelf.left l.shelf);
       last_bytes : l.found ≡ Last → IsSome (shelf.told l.fn.shelf)
@@ -22,8 +22,9 @@ invariant-windows g l =
       sure : IsTrue (shelf.is_sure l.fn.shelf) → l.found ≢ Failed;
       mode : mode_of l.hasher ≡ l.self.output.mode;
       output : l.self.output ≡ l.fn.self.output;
-      aligned : length_of l.hasher % WINDOW_LEN ≡ 0;
-      size : length_of l.hasher + current.filled + READ_LEN * l.left.turns ≤ READ_LEN * l.fn.limits.turns;
+      aligned : l.found ≢ Failed → length_of l.hasher % WINDOW_LEN ≡ 0;
+      size : l.found ≢ Failed
+          → length_of l.hasher + current.filled + READ_LEN * l.left.turns ≤ READ_LEN * l.fn.limits.turns;
       many : l.found ≡ More → l.fn.limits.turns ≤ l.left.turns + length_of l.hasher + current.filled;
       full : l.found ≡ More → WINDOW_LEN < current.filled;
       little : l.found ≡ More → current.filled ≤ WINDOW_LEN + READ_LEN;

@@ -18,7 +18,7 @@ pub returns-in_err-item-clause-shelf_count : goal.returns-in_err-item-clause-she
 returns-in_err-item-clause-shelf_count g c = so_far_least c.loop-item.invariant.so_far
 
 pub run_item-requires-clause-fit : goal.run_item-requires-clause-fit
-run_item-requires-clause-fit g c =
+run_item-requires-clause-fit g c = λ _ _.
     let fit = rw c.in-Some.is at c.in_ok-item.ensures.fit in
     let len = c.loop-item.self.digester.output.length in
     fit len (c.loop-item.invariant.fits len
@@ -26,7 +26,7 @@ run_item-requires-clause-fit g c =
     ∙ c.requires.fits)
 
 pub run_item-requires-clause-room : goal.run_item-requires-clause-room
-run_item-requires-clause-room g c =
+run_item-requires-clause-room g c = λ _ _.
     let next = rw c.in-Some.is at c.in_ok-item.ensures.next in
     so_far_room c.requires.room (rw next at c.loop-item.invariant.so_far)
 

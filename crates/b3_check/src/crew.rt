@@ -1,0 +1,83 @@
+//! Who hashes a window.
+
+ghost use Rattle.std.specs.Prelude.{◌≡◌, ◌+◌, ◌<◌, ◌≤◌, ◌^◌, IfErr, IfOk, length};
+ghost use Rattle.b3_board.specs.declared.fault.BoardFault.TheVariants as BoardFault;
+ghost use Rattle.b3_check.specs.declared.buffer.TheConstants.{WINDOW_LEN};
+ghost use Rattle.b3_check.specs.declared.fault.RunFault.TheVariants as RunFault;
+ghost use Rattle.b3_core.specs.Tree.{chunks, top};
+
+use crate::buffer::WINDOW_LEN;
+use crate::fault::RunFault;
+use b3_board::{BoardFault, CHUNKS_A_THREAD, Gate, Plan, default_grain, hash_parallel};
+use b3_core::{Mode, Node, chunks, top};
+use std::alloc::Global;
+use std::sync::Wait;
+use std::thread::Threads;
+
+/// So many workers, and the gate that they pass.
+#[derive(Drop)]
+pub struct Crew<'c, R, G> {
+    rt: &'c R,
+    alloc: Global,
+    workers: u32,
+    gate: &'c G,
+    ghost some: { 0 < workers },
+    ghost few: { workers ≤ 64 },
+}
+
+impl<'c, R: Threads + Wait + Sync, G: Gate + Sync> Crew<'c, R, G> {
+    /// From 1 to 64 workers behind this gate.
+    pub fn new(rt: &'c R, alloc: Global, workers: u32, gate: &'c G) -> Crew<'c, R, G>
+        requires some { 0 < workers }
+        requires few { workers ≤ 64 }
+    {
+        Crew {
+            rt,
+            alloc,
+            workers,
+            gate,
+        }
+    }
+
+    /// What starts threads.
+    pub fn runtime(&self) -> &'c R {
+        self.rt
+    }
+
+    /// The node of a window (BLAKE3 (2020), 2.1), whose chunks are numbered from `first`. Every window of
+    /// every file comes through here. A run fault is want of memory.
+    pub fn window_node(&self, bytes: &[u8], mode: &Mode, first: u64) -> Result<Node, RunFault>
+        requires numbers { first + chunks (length bytes.now) ≤ 2 ^ 54 }
+        requires little { length bytes.now ≤ WINDOW_LEN }
+        ensures node { IfOk result (λ node. node ≡ top mode.now first bytes.now) }
+        ensures fault { IfErr result (λ fault. fault ≡ RunFault.Memory) }
+    {
+        if self.needs_one_thread(bytes.len()) {
+            return Ok(top(mode, first, bytes));
+        }
+        match self.share_out(bytes, mode, first) {
+            Ok(node) => Ok(node),
+            Err(BoardFault::Memory) => Err(RunFault::Memory),
+            Err(_) => unreachable!(),
+        }
+    }
+
+    // Whether a window of so many bytes would be hashed by one thread, so that it needs no board.
+    fn needs_one_thread(&self, len: usize) -> bool {
+        let chunks = chunks(len as u64);
+        !self.gate.may_hold() && (self.workers == 1 || chunks < 2 * CHUNKS_A_THREAD)
+    }
+
+    // The window's node by its spans, which the workers share.
+    fn share_out(&self, bytes: &[u8], mode: &Mode, first: u64) -> Result<Node, BoardFault>
+        requires numbers { first + chunks (length bytes.now) ≤ 2 ^ 54 }
+        requires little { length bytes.now ≤ WINDOW_LEN }
+        ensures node { IfOk result (λ node. node ≡ top mode.now first bytes.now) }
+        ensures fault { IfErr result (λ fault. fault ≡ BoardFault.Memory) }
+    {
+        let grain = default_grain(chunks(bytes.len() as u64));
+        let plan = Plan::at(self.alloc, bytes, *mode, first, grain)?;
+        let report = hash_parallel(self.rt, self.alloc, &plan, self.workers, self.gate)?;
+        Ok(report.root.node())
+    }
+}
