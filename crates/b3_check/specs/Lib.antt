@@ -14,3 +14,4 @@ pub mod Reading
 pub mod Windows
 pub mod MemoryShelves
 pub mod MemorySinks
+pub mod Ahead

@@ -1,5 +1,5 @@
 -- Windows as they are read: what is filled of one, and what reading one came to.
-use Rattle.std.specs.Prelude.{ℕ, List, take, Result, Ok, Err}
+use Rattle.std.specs.Prelude.{ℕ, List, ◌++◌, take, Result, Ok, Err}
 use Rattle.b3_check.specs.declared.buffer.Buffer.{Buffer}
 use Rattle.b3_check.specs.declared.fault.RunFault.{RunFault}
 use Rattle.b3_check.specs.declared.window.Found.{Found}
@@ -15,3 +15,14 @@ failed_reads (Ok More) = 0
 failed_reads (Ok Last) = 0
 failed_reads (Ok Failed) = 1
 failed_reads (Err _) = 0
+
+-- what reading one came to, of an answer that says more
+abbrev pub read_to : {T E : Type 0} → Result (Found × T) E → Result Found E
+read_to (Ok read) = Ok read.0
+read_to (Err fault) = Err fault
+
+-- what comes behind the windows before: what is filled, and what is left unless the file ended
+abbrev pub content_of : Found → List ℕ → List ℕ → List ℕ
+content_of More filled rest = filled ++ rest
+content_of Last filled rest = filled
+content_of Failed filled rest = filled

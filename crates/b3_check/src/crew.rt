@@ -44,6 +44,11 @@ impl<'c, R: Threads + Wait + Sync, G: Gate + Sync> Crew<'c, R, G> {
         self.rt
     }
 
+    /// Whether hashing so many bytes takes longer than a thread takes to start, or a worker may be held.
+    pub fn is_worth_a_thread(&self, len: usize) -> bool {
+        self.gate.may_hold() || chunks(len as u64) >= CHUNKS_A_THREAD
+    }
+
     /// The node of a window (BLAKE3 (2020), 2.1), whose chunks are numbered from `first`. Every window of
     /// every file comes through here. A run fault is want of memory.
     pub fn window_node(&self, bytes: &[u8], mode: &Mode, first: u64) -> Result<Node, RunFault>

@@ -1,14 +1,15 @@
 //! A name hashed: from the beginning of its file to its digest.
 
-ghost use Rattle.std.specs.Prelude.{◌≡◌, ◌≢◌, ℕ, ◌+◌, ◌-◌, ◌*◌, ◌/◌, ◌%◌, ◌^◌, ◌<◌, ◌≤◌, ◌++◌, Ok, List, drop, length, take, false, IsTrue, IsSome, IfOk, IfErr, MatchOption, OnOk, vec_len};
+ghost use Rattle.std.specs.Prelude.{◌≡◌, ◌≢◌, ◌⊎◌, ℕ, ◌+◌, ◌-◌, ◌*◌, ◌/◌, ◌%◌, ◌^◌, ◌<◌, ◌≤◌, ◌++◌, Ok, List, drop, length, take, false, IsTrue, IsSome, IfOk, IfErr, IfSome, MatchOption, OnOk, Some, option_copied, vec_len};
+ghost use Rattle.b3_check.specs.Ahead.{HasOpened, IsOpened, hash_failures, last_failures, opened_failures, rest_failures};
 ghost use Rattle.std.specs.Thread.{IsSync};
 ghost use Rattle.b3_core.specs.Output.{output_bytes};
 ghost use Rattle.b3_core.specs.Tree.{chunks, top};
 ghost use Rattle.b3_hash.specs.Hashers.{StandsFor, length_of, mode_of};
 ghost use Rattle.b3_check.specs.Faults.{is_write_fault};
-ghost use Rattle.b3_check.specs.Reading.{IsDigestOf, IsFaultOfRest, IsOutputOf, IsReadingFault, found_if, is_unread, unread_count};
+ghost use Rattle.b3_check.specs.Reading.{IsDigestOf, IsFaultOfRest, IsOutputOf, IsReadingFault, found_if};
 ghost use Rattle.b3_check.specs.Scripts.Kind.{Hashed};
-ghost use Rattle.b3_check.specs.Windows.{failed_reads, filled_bytes};
+ghost use Rattle.b3_check.specs.Windows.{content_of, failed_reads, filled_bytes};
 ghost use Rattle.b3_check.specs.declared.buffer.TheConstants.{WINDOW_LEN};
 ghost use Rattle.b3_check.specs.declared.fault.RunFault.TheVariants as RunFault;
 ghost use Rattle.b3_check.specs.declared.room.TheConstants.{READ_LEN};
@@ -17,16 +18,18 @@ ghost use Rattle.b3_check.specs.declared.window.Found.TheVariants.{Failed, Last,
 use crate::buffer::{Buffer, WINDOW_LEN, WINDOW_LEVEL};
 use crate::crew::Crew;
 use crate::fault::RunFault;
+use crate::opened::{Opened, first_window, open};
 use crate::options::Limits;
 use crate::room::zeros;
 use crate::shelf::Shelf;
 use crate::window::{Found, fill};
 use b3_board::Gate;
-use b3_core::{CHUNK_LEN, Mode, Node};
+use b3_core::{CHUNK_LEN, Mode, Node, top};
 use b3_hash::{Hasher, Xof};
 use std::alloc::{AllocError, Global};
 use std::mem;
 use std::sync::Wait;
+use std::sync::atomic::{AtomicBool, Ordering};
 use std::thread::{Threads, join_mut};
 
 /// Which bytes of which output of a content are wanted.
@@ -76,62 +79,79 @@ impl Digester {
         self.digest.as_slice()
     }
 
-    /// Hashes the content of a name (BLAKE3 (2020), 2.6), and answers whether it can be read. A run
-    /// fault comes where the content has not ended after as many reads as `limits` allow.
+    /// Hashes the content of a name (BLAKE3 (2020), 2.6), of which `ahead` was opened, and answers whether
+    /// it can be read. A run fault comes where the content has not ended after as many reads as `limits`
+    /// allow.
     pub fn hash_name<R: Threads + Wait + Sync, G: Gate + Sync, S: Shelf + Send>(
         &mut self,
         crew: &Crew<'_, R, G>,
         shelf: &mut S,
         name: &str,
+        ahead: Option<Opened>,
+        next: Option<&str>,
         limits: Limits,
-    ) -> Result<bool, RunFault>
+    ) -> Result<(bool, Option<Opened>), RunFault>
+        requires ahead { HasOpened (S.told shelf.old) (S.is_sure shelf.old) limits (filled_bytes self.old.current)
+            (S.left shelf.old) (Some name.now) ahead }
         requires count { S.failures shelf.old < 2 ^ 64 - 1 }
         requires some_turns { 0 < limits.turns }
         requires turns { limits.turns ≤ 2 ^ 40 }
-        ensures digest { IfOk result (λ whole. IsDigestOf (S.told shelf.old) (S.is_sure shelf.old)
-            name.now self.old.output (found_if whole self.new.digest.items)) }
+        ensures digest { IfOk result (λ done. IsDigestOf (S.told shelf.old) (S.is_sure shelf.old)
+            name.now self.old.output (found_if done.0 self.new.digest.items)) }
+        ensures opened { IfOk result (λ done. HasOpened (S.told shelf.old) (S.is_sure shelf.old) limits
+            (filled_bytes self.new.current) (S.left shelf.new) (option_copied next.entry) done.1) }
         ensures fault { IfErr result (λ fault. IsReadingFault fault (S.told shelf.old) limits Hashed name.now) }
-        ensures no_sink { is_write_fault result ≡ false }
-        ensures count { S.failures shelf.new ≡ S.failures shelf.old + unread_count result }
+        ensures count { S.failures shelf.new + opened_failures ahead ≡ S.failures shelf.old + hash_failures result }
         ensures told { S.told shelf.new ≡ S.told shelf.old }
         ensures still_sure { S.is_sure shelf.new ≡ S.is_sure shelf.old }
         ensures output { self.new.output ≡ self.old.output }
     {
-        if shelf.begin(name).is_err() {
-            return Ok(false);
+        let (found, left) = first_window(shelf, &mut self.current, name, ahead, limits)?;
+        if found == Found::Failed {
+            return Ok((false, None));
         }
-        let Some(output) = self.hash_rest(crew, shelf, limits)? else {
-            return Ok(false);
+        let Some(hashed) = self.hash_rest(crew, shelf, found, left, next, limits)? else {
+            return Ok((false, None));
         };
+        let (output, opened) = hashed;
         self.take_digest(output);
-        Ok(true)
+        Ok((true, opened))
     }
 
-    // Hashes what is left of the file that is begun, and answers its output, or nothing where it cannot be
-    // read.
+    // Hashes what is filled of the first window and what is left of the file, and answers its output, or
+    // nothing where it cannot be read. `left` are the limits of what is left. The name `next` may be opened
+    // meanwhile, and what came of it is answered too.
     fn hash_rest<R: Threads + Wait + Sync, G: Gate + Sync, S: Shelf + Send>(
         &mut self,
         crew: &Crew<'_, R, G>,
         shelf: &mut S,
+        mut found: Found,
+        mut left: Limits,
+        next: Option<&str>,
         limits: Limits,
-    ) -> Result<Option<Xof>, RunFault>
+    ) -> Result<Option<(Xof, Option<Opened>)>, RunFault>
         requires count { S.failures shelf.old < 2 ^ 64 - 1 }
-        requires some_turns { 0 < limits.turns }
-        requires turns { limits.turns ≤ 2 ^ 40 }
+        requires read { found ≢ Failed }
+        requires name_turns { 0 < limits.turns }
+        requires some_turns { found ≡ More → 0 < left.turns }
+        requires turns { left.turns ≤ 2 ^ 40 }
+        requires full { found ≡ More → WINDOW_LEN < self.old.current.filled }
+        requires little { self.old.current.filled ≤ WINDOW_LEN + READ_LEN }
+        requires last { found ≡ Last → self.old.current.filled ≤ WINDOW_LEN }
         ensures whole { IfOk result (λ read. MatchOption read (S.is_sure shelf.old ≡ false)
-            (λ output. IsOutputOf (S.told shelf.old) (S.left shelf.old) self.old.output.mode output)) }
-        ensures fault { IfErr result (λ fault.
-            IsFaultOfRest fault (S.told shelf.old) limits Hashed (S.left shelf.old)) }
+            (λ done. IsOutputOf (S.told shelf.old) (content_of found (filled_bytes self.old.current)
+            (S.left shelf.old)) self.old.output.mode done.0)) }
+        ensures opened { IfOk result (λ read. IfSome read (λ done. HasOpened (S.told shelf.old) (S.is_sure shelf.old)
+            limits (filled_bytes self.new.current) (S.left shelf.new) (option_copied next.entry) done.1)) }
+        ensures fault { IfErr result (λ fault. (fault ≡ RunFault.Memory)
+            ⊎ ((found ≡ More) × IsFaultOfRest fault (S.told shelf.old) left Hashed (S.left shelf.old))) }
         ensures no_sink { is_write_fault result ≡ false }
-        ensures count { S.failures shelf.new ≡ S.failures shelf.old + is_unread result }
+        ensures count { S.failures shelf.new ≡ S.failures shelf.old + rest_failures result }
         ensures told { S.told shelf.new ≡ S.told shelf.old }
         ensures still_sure { S.is_sure shelf.new ≡ S.is_sure shelf.old }
         ensures output { self.new.output ≡ self.old.output }
     {
         let mut hasher = Hasher::new(self.output.mode);
-        let mut left = limits;
-        self.current.clear();
-        let mut found = fill(shelf, &mut self.current, &mut left)?;
         'windows: while found == Found::More {
             let next = self.next_window(crew, shelf, &mut hasher, &mut left)?;
             found = next;
@@ -139,9 +159,97 @@ impl Digester {
         if found == Found::Failed {
             return Ok(None);
         }
-        let mode = &self.output.mode;
-        let last = crew.window_node(self.current.filled(), mode, hasher.len() / CHUNK_LEN as u64)?;
-        Ok(Some(hasher.finish_with(last)))
+        let number = hasher.len() / CHUNK_LEN as u64;
+        let (last, opened) = self.last_window(crew, shelf, number, next, limits)?;
+        Ok(Some((hasher.finish_with(last), opened)))
+    }
+
+    // Hashes the last window, whose chunks are numbered from `first`. Where that takes longer than a thread
+    // takes to start, the name `next` is opened meanwhile; else it is left to the run, so that no line waits
+    // for it.
+    fn last_window<R: Threads + Wait + Sync, G: Gate + Sync, S: Shelf + Send>(
+        &mut self,
+        crew: &Crew<'_, R, G>,
+        shelf: &mut S,
+        first: u64,
+        next: Option<&str>,
+        limits: Limits,
+    ) -> Result<(Node, Option<Opened>), RunFault>
+        requires count { S.failures shelf.old < 2 ^ 64 - 1 }
+        requires some_turns { 0 < limits.turns }
+        requires last { self.old.current.filled ≤ WINDOW_LEN }
+        requires numbers { first + chunks self.old.current.filled ≤ 2 ^ 54 }
+        ensures node { IfOk result (λ done. done.0 ≡ top self.old.output.mode first (filled_bytes self.old.current)) }
+        ensures opened { IfOk result (λ done. HasOpened (S.told shelf.old) (S.is_sure shelf.old) limits
+            (filled_bytes self.new.current) (S.left shelf.new) (option_copied next.entry) done.1) }
+        ensures fault { IfErr result (λ fault. fault ≡ RunFault.Memory) }
+        ensures count { S.failures shelf.new ≡ S.failures shelf.old + last_failures result }
+        ensures told { S.told shelf.new ≡ S.told shelf.old }
+        ensures still_sure { S.is_sure shelf.new ≡ S.is_sure shelf.old }
+        ensures output { self.new.output ≡ self.old.output }
+    {
+        match next {
+            Some(name) if crew.is_worth_a_thread(self.current.len()) => {
+                let (node, ahead) = self.hash_and_open(crew, shelf, first, name, limits);
+                Ok((node, Some(ahead)))
+            }
+            _ => {
+                let node = crew.window_node(self.current.filled(), &self.output.mode, first)?;
+                Ok((node, None))
+            }
+        }
+    }
+
+    // Hashes the last window, and opens a name meanwhile, in a thread of its own, which leaves off reading
+    // when the window is hashed. Where there is no memory for workers this thread hashes it by itself: the
+    // name that was opened would be lost.
+    fn hash_and_open<R: Threads + Wait + Sync, G: Gate + Sync, S: Shelf + Send>(
+        &mut self,
+        crew: &Crew<'_, R, G>,
+        shelf: &mut S,
+        first: u64,
+        name: &str,
+        limits: Limits,
+    ) -> (Node, Opened)
+        requires count { S.failures shelf.old < 2 ^ 64 - 1 }
+        requires some_turns { 0 < limits.turns }
+        requires last { self.old.current.filled ≤ WINDOW_LEN }
+        requires numbers { first + chunks self.old.current.filled ≤ 2 ^ 54 }
+        ensures node { result.0 ≡ top self.old.output.mode first (filled_bytes self.old.current) }
+        ensures opened { IsOpened (S.told shelf.old) (S.is_sure shelf.old) limits name.now
+            (filled_bytes self.new.current) (S.left shelf.new) result.1 }
+        ensures count { S.failures shelf.new ≡ S.failures shelf.old + opened_failures (Some result.1) }
+        ensures told { S.told shelf.new ≡ S.told shelf.old }
+        ensures still_sure { S.is_sure shelf.new ≡ S.is_sure shelf.old }
+        ensures output { self.new.output ≡ self.old.output }
+    {
+        let Digester {
+            output,
+            current,
+            next,
+            ..
+        } = self;
+        let (mode, window) = (output.mode, current.filled());
+        let is_hashed = AtomicBool::new(false);
+        let (opened, node) = join_mut(
+            crew.runtime(),
+            &mut || open(shelf, next, name, limits, &is_hashed),
+            &mut || -> Result<Node, RunFault>
+                requires { IsSync R.row × IsSync G.row × (first + chunks (length window.now) ≤ 2 ^ 54)
+                    × (length window.now ≤ WINDOW_LEN) }
+                ensures { IfOk result (λ node. node ≡ top mode first window.entry.now) }
+            {
+                let node = crew.window_node(window, &mode, first);
+                is_hashed.store(true, Ordering::Relaxed);
+                node
+            },
+        );
+        let node = match node {
+            Ok(node) => node,
+            Err(_) => top(&mode, first, window),
+        };
+        mem::swap(current, next);
+        (node, opened)
     }
 
     // Hashes the window at hand, which is full, and reads the next one meanwhile, in a thread of its own.
@@ -224,6 +332,7 @@ impl Digester {
     // Takes the digest from the output of a content.
     fn take_digest(&mut self, mut output: Xof)
         ensures digest { self.new.digest.items ≡ output_bytes output.node self.old.output.seek self.old.output.length }
+        ensures current { self.new.current ≡ self.old.current }
         ensures output { self.new.output ≡ self.old.output }
     {
         output.seek(self.output.seek);

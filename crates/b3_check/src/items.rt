@@ -1,6 +1,7 @@
 //! What a run does, item after item.
 
-ghost use Rattle.std.specs.Prelude.{◌≡◌, ℕ, Bool, List, [], ◌∷◌, true, false, map, string_bytes, IfOk, IfSome, MatchOption};
+ghost use Rattle.std.specs.Prelude.{◌≡◌, ℕ, Bool, List, [], ◌∷◌, true, false, map, string_bytes, IfOk, IfSome, MatchOption, option_copied};
+ghost use Rattle.b3_check.specs.Ahead.{first_name, next_tasks};
 ghost use Rattle.b3_check.specs.Sums.{is_bad_name, shows_name};
 ghost use Rattle.b3_check.specs.Tasks.{IsFit, IsFitItem, Task, bytes_of, len_of, name_asked, name_task, report_of, subject_report, task_of};
 
@@ -48,6 +49,16 @@ impl Subject<'_> {
             Subject::Name(form, name) => Said::of_name(alloc, *form, name, digest),
             Subject::Line(quiet, line) => Said::of_line(alloc, *quiet, line, digest),
         }
+    }
+}
+
+/// The name that the next item asks for, if it asks for one.
+pub fn next_name<'i>(next: Option<&'i Item<'_>>) -> Option<&'i str>
+    ensures { option_copied result ≡ first_name (next_tasks next.entry) }
+{
+    match next {
+        Some(Item::Ask(subject)) => Some(subject.name()),
+        Some(Item::Say(_)) | None => None,
     }
 }
 

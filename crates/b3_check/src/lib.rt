@@ -15,6 +15,7 @@ mod list_lines;
 mod lists;
 mod memory_shelf;
 mod memory_sink;
+mod opened;
 mod options;
 mod room;
 mod said;

@@ -3,10 +3,12 @@
 ghost use Rattle.std.specs.Prelude.{◌≡◌, ◌^◌, ◌≤◌};
 ghost use Rattle.b3_check.specs.Options.{CanCheck, CanRun};
 
+mod ahead;
 mod checks;
 mod devices;
 mod faults;
 mod faulty_files;
+mod lettered_files;
 mod memory;
 mod plain_lines;
 mod random;

@@ -1,16 +1,19 @@
 //! The loop that both engines go through.
 
-ghost use Rattle.std.specs.Prelude.{◌≡◌, ◌+◌, ◌-◌, ◌^◌, ◌<◌, ◌≤◌, true, length, IfOk};
-ghost use Rattle.b3_check.specs.Desks.{loans, scene_of};
+ghost use Rattle.std.specs.Prelude.{◌≡◌, ◌+◌, ◌-◌, ◌^◌, ◌<◌, ◌≤◌, [], ◌∷◌, Some, true, length, IfOk};
+ghost use Rattle.b3_check.specs.Ahead.{GivesAhead, IsAhead, RunsAhead, first_name, next_tasks, unopened};
+ghost use Rattle.b3_check.specs.Desks.{left_of, loans, scene_of};
 ghost use Rattle.b3_check.specs.Runs.{HasRoom, Runs};
 ghost use Rattle.b3_check.specs.Tallies.{counted};
-ghost use Rattle.b3_check.specs.Tasks.{IsFit, IsFitItem, Gives, name_asked, subject_report, task_of, task_script, tasks_script};
+ghost use Rattle.b3_check.specs.Tasks.{IsFit, IsFitItem, name_asked, subject_report, task_of, tasks_script};
+ghost use Rattle.b3_check.specs.Windows.{filled_bytes};
 
 use crate::crew::Crew;
 use crate::desk::Desk;
 use crate::fault::RunFault;
 use crate::hashing::{Digester, Output};
-use crate::items::{Item, Plan, Subject};
+use crate::items::{Item, Plan, Subject, next_name};
+use crate::opened::Opened;
 use crate::options::Limits;
 use crate::said::Said;
 use crate::shelf::Shelf;
@@ -54,7 +57,8 @@ impl<'c, R: Threads + Wait + Sync, G: Gate + Sync> Worker<'c, R, G> {
         })
     }
 
-    /// Does the items of a plan, one after the other.
+    /// Does the items of a plan, one after the other. While the content of one is hashed, the name that
+    /// the next one asks for may be opened; what is written and counted is the same.
     pub fn run<'p, S: Shelf + Send, O: Sink, E: Sink, P: Plan<'p>>(
         &mut self,
         desk: &mut Desk<'_, '_, '_, S, O, E>,
@@ -73,26 +77,37 @@ impl<'c, R: Threads + Wait + Sync, G: Gate + Sync> Worker<'c, R, G> {
         ensures output { self.new.digester.output ≡ self.old.digester.output }
     {
         let mut tally = Tally::none();
-        while let Some(item) = plan.next()? {
-            let one = self.run_item(desk, &item)?;
+        let mut ahead = None;
+        let mut next = plan.next()?;
+        while let Some(item) = next {
+            next = plan.next()?;
+            let (one, opened) = self.run_item(desk, &item, ahead, next.as_ref())?;
             tally.add(&one);
+            ahead = opened;
         }
         Ok(tally)
     }
 
-    // Does one item.
+    // Does one item, of which `ahead` was opened, and opens what the next one asks for.
     fn run_item<S: Shelf + Send, O: Sink, E: Sink>(
         &mut self,
         desk: &mut Desk<'_, '_, '_, S, O, E>,
         item: &Item<'_>,
-    ) -> Result<Tally, RunFault>
+        ahead: Option<Opened>,
+        next: Option<&Item<'_>>,
+    ) -> Result<(Tally, Option<Opened>), RunFault>
         requires fit { IsFitItem self.old.digester.output.length item.now }
-        requires room { HasRoom (scene_of S.Shelf O.Sink E.Sink desk.old) 1 }
-        ensures run { Runs self.old.limits (task_script self.old.digester.output (task_of item.now))
-            (scene_of S.Shelf O.Sink E.Sink desk.old) (scene_of S.Shelf O.Sink E.Sink desk.new) result }
-        ensures one { IfOk result (λ tally. counted tally ≡ 1) }
-        ensures shelf_count { (scene_of S.Shelf O.Sink E.Sink desk.new).failures
-            ≤ (scene_of S.Shelf O.Sink E.Sink desk.old).failures + 1 }
+        requires ahead { IsAhead self.old.limits (scene_of S.Shelf O.Sink E.Sink desk.old)
+            (filled_bytes self.old.digester.current) (left_of S.Shelf desk.old)
+            (first_name (task_of item.now ∷ [])) ahead }
+        requires room { HasRoom (unopened ahead (scene_of S.Shelf O.Sink E.Sink desk.old)) 1 }
+        ensures run { RunsAhead self.old.limits self.old.digester.output (task_of item.now) (next_tasks next.entry)
+            (unopened ahead (scene_of S.Shelf O.Sink E.Sink desk.old)) (scene_of S.Shelf O.Sink E.Sink desk.new)
+            result }
+        ensures ahead { IfOk result (λ done. IsAhead self.old.limits (scene_of S.Shelf O.Sink E.Sink desk.new)
+            (filled_bytes self.new.digester.current) (left_of S.Shelf desk.new) (first_name (next_tasks next.entry))
+            done.1) }
+        ensures one { IfOk result (λ done. counted done.0 ≡ 1) }
         ensures loans { loans desk.new ≡ loans desk.old }
         ensures limits { self.new.limits ≡ self.old.limits }
         ensures output { self.new.digester.output ≡ self.old.digester.output }
@@ -100,12 +115,12 @@ impl<'c, R: Threads + Wait + Sync, G: Gate + Sync> Worker<'c, R, G> {
         match item {
             Item::Say(said) => {
                 desk.say(said)?;
-                Ok(said.tally)
+                Ok((said.tally, None))
             }
             Item::Ask(subject) => {
-                let said = self.find(desk, subject)?;
+                let (said, opened) = self.find(desk, subject, ahead, next)?;
                 desk.say(&said)?;
-                Ok(said.tally)
+                Ok((said.tally, opened))
             }
         }
     }
@@ -115,18 +130,34 @@ impl<'c, R: Threads + Wait + Sync, G: Gate + Sync> Worker<'c, R, G> {
         &mut self,
         desk: &mut Desk<'_, '_, '_, S, O, E>,
         subject: &Subject<'_>,
-    ) -> Result<Said, RunFault>
+        ahead: Option<Opened>,
+        next: Option<&Item<'_>>,
+    ) -> Result<(Said, Option<Opened>), RunFault>
         requires fit { IsFit self.old.digester.output.length subject.now }
-        requires room { HasRoom (scene_of S.Shelf O.Sink E.Sink desk.old) 1 }
-        ensures gives { Gives self.old.limits self.old.digester.output (name_asked subject.now)
-            (subject_report subject.now)
-            (scene_of S.Shelf O.Sink E.Sink desk.old) (scene_of S.Shelf O.Sink E.Sink desk.new) result }
+        requires ahead { IsAhead self.old.limits (scene_of S.Shelf O.Sink E.Sink desk.old)
+            (filled_bytes self.old.digester.current) (left_of S.Shelf desk.old) (Some (name_asked subject.now)) ahead }
+        requires room { HasRoom (unopened ahead (scene_of S.Shelf O.Sink E.Sink desk.old)) 1 }
+        ensures gives { GivesAhead self.old.limits self.old.digester.output (name_asked subject.now)
+            (subject_report subject.now) (next_tasks next.entry)
+            (unopened ahead (scene_of S.Shelf O.Sink E.Sink desk.old)) (scene_of S.Shelf O.Sink E.Sink desk.new)
+            result }
+        ensures ahead { IfOk result (λ done. IsAhead self.old.limits (scene_of S.Shelf O.Sink E.Sink desk.new)
+            (filled_bytes self.new.digester.current) (left_of S.Shelf desk.new) (first_name (next_tasks next.entry))
+            done.1) }
         ensures loans { loans desk.new ≡ loans desk.old }
         ensures limits { self.new.limits ≡ self.old.limits }
         ensures output { self.new.digester.output ≡ self.old.digester.output }
     {
-        let whole = desk.hash(&self.crew, &mut self.digester, subject.name(), self.limits)?;
+        let behind = next_name(next);
+        let (whole, opened) = desk.hash(
+            &self.crew,
+            &mut self.digester,
+            subject.name(),
+            ahead,
+            behind,
+            self.limits,
+        )?;
         let digest = whole.then_some(self.digester.digest());
-        Ok(subject.said(self.alloc, digest)?)
+        Ok((subject.said(self.alloc, digest)?, opened))
     }
 }

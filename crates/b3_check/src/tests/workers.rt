@@ -23,7 +23,7 @@ const FILES: usize = 100;
 const STEP: usize = 404;
 
 // Lets the others go on. It does not say that it holds nobody, so each worker has a thread, up to the spans.
-struct Yielding;
+pub struct Yielding;
 
 impl Gate for Yielding {
     fn pass(&self, _worker: usize, _span: usize) {

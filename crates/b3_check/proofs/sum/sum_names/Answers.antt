@@ -47,7 +47,8 @@ run-requires g c = λ _.
     let names = c.args.names.now in
     let seen = scene_of g.S.Shelf g.O.Sink g.E.Sink in
     let room : HasRoom (seen c.find_mode.new.desk) (length names) =
-    mode_room c.args.options.now.key c.in_ok-mode.mode _ _ (length names) c.in_ok-mode.ensures.found c.requires.room in (
+    mode_room c.args.options.now.key c.in_ok-mode.mode _ _ (length names) c.in_ok-mode.ensures.found
+    c.requires.room in (
       c.type_bounds.send-S,
       (
         c.type_bounds.sync-R,

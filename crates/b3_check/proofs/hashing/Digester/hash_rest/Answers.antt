@@ -1,12 +1,13 @@
-use Rattle.std.proofs.Common.{◌≡◌, ◌≢◌, ℕ, ◌/◌, ◌%◌, ◌++◌, ◌∙◌, Ok, IsTrue, IsSome, List, length, take, ap, sym, subst, arith, rules}
+use Rattle.std.proofs.Common.{◌≡◌, ◌≢◌, ℕ, ◌/◌, ◌%◌, ◌++◌, ◌∙◌, Ok, IsTrue, IsSome, List, length, take, ap, sym, subst, arith, rules, inl, inr}
 use Rattle.std.proofs.Math.Nat.{add-mod_right}
 use Rattle.std.proofs.lemmas.List.{length-append}
+use Rattle.std.proofs.lemmas.Result.{err_from_is_err_and}
 use Rattle.b3_core.specs.Tree.{top}
 use Rattle.b3_core.specs.declared.modes.Mode.{Mode}
 use Rattle.b3_hash.specs.Hashers.{length_of, mode_of}
 use Rattle.b3_hash.proofs.Standing.{length-StandsFor}
 use Rattle.b3_check.specs.Reading.{IsFaultOfRest}
-use Rattle.b3_check.specs.Windows.{failed_reads, filled_bytes}
+use Rattle.b3_check.specs.Windows.{content_of, failed_reads, filled_bytes}
 use Rattle.b3_check.specs.Scripts.Kind.{Hashed}
 use Rattle.b3_check.specs.declared.buffer.TheConstants.{WINDOW_LEN}
 use Rattle.b3_check.specs.declared.window.Found.TheVariants.{Failed, Last, More}
@@ -19,19 +20,41 @@ returns-in_err-next-clause-fault g c =
     let shelf = g.S.Shelf in
     let held = c.windows.invariant in
     let current = c.windows.self.current in
+    let first = c.args.self.now.current in
     let is_more : c.windows.found ≡ More = search rules in
     let many = held.many is_more in
-    let moved : IsFaultOfRest c.in_err-next.field-0.0 (shelf.told c.args.shelf.now) c.args.limits Hashed
+    let content = ap (λ found. content_of found (filled_bytes first) (shelf.left c.args.shelf.now))
+    (held.first is_more) in
+    let moved : IsFaultOfRest c.in_err-next.field-0.0 (shelf.told c.args.shelf.now) c.args.left Hashed
     (shelf.left c.args.shelf.now) =
-    later_fault (shelf.told c.args.shelf.now) c.args.limits c.windows.left (shelf.left c.args.shelf.now)
+    later_fault (shelf.told c.args.shelf.now) c.args.left c.windows.left (shelf.left c.args.shelf.now)
     (shelf.left c.windows.shelf) c.in_err-next.field-0.0 (λ told longer.
-    let parts = ap (λ (xs : List ℕ). length xs) (held.more_bytes is_more told) in
+    let parts = ap (λ (xs : List ℕ). length xs) (sym content ∙ held.more_bytes is_more told) in
+    let whole = length-append (filled_bytes first) (shelf.left c.args.shelf.now) in
     let len = length-append held.before (filled_bytes current ++ shelf.left c.windows.shelf) in
     let rest = length-append (filled_bytes current) (shelf.left c.windows.shelf) in
-    let hashed = length-StandsFor c.windows.hasher held.before (held.stands (More-not-Failed c.windows.found is_more)) in
-    omega (arith, longer, many, parts, len, rest, hashed, length-filled_bytes current))
+    let hashed =
+    length-StandsFor c.windows.hasher held.before (held.stands (More-not-Failed c.windows.found is_more)) in
+    omega (
+      arith,
+      longer,
+      many,
+      parts,
+      whole,
+      len,
+      rest,
+      hashed,
+      length-filled_bytes current,
+      length-filled_bytes first,
+    ))
     (rw held.told at c.in_err-next.ensures.fault) in
-    search (rules, moved)
+    let p = err_from_is_err_and c.from_residual.result c.from_residual.ensures.1 in
+    rw (p.1, p.2) (inr (held.first is_more, moved))
+
+pub returns-in_err-last-clause-fault : goal.returns-in_err-last-clause-fault
+returns-in_err-last-clause-fault g c =
+    let p = err_from_is_err_and c.from_residual-in_err-last.result c.from_residual-in_err-last.ensures.1 in
+    rw (p.1, p.2) (inl c.in_err-last.ensures.fault)
 
 pub windows-preserved : goal.windows-preserved
 windows-preserved g c =
@@ -44,6 +67,7 @@ windows-preserved g c =
     let count = ap (λ found. failed_reads (Ok found)) is_more in record {
       before = held.before ++ take WINDOW_LEN (filled_bytes current);
       stands = λ alive. next.hashed alive held.before (held.stands stood);
+      first = λ _. held.first is_more;
       more_bytes = λ is told. held.more_bytes is_more told
           ∙ append-window held.before (filled_bytes current) (shelf.left c.windows.shelf) _ WINDOW_LEN
           (next.more_bytes (ap Ok is) (subst IsSome (sym held.told) told));
@@ -84,7 +108,7 @@ returns-clause-whole g c =
     let number : c.len.result / 1024 ≡ length before / 1024 =
     ap (λ n. n / 1024) (c.len.ensures.stands_for before stands) in
     let last_is : c.in_ok-last.last ≡ top (mode_of hasher) (length before / 1024) filled =
-    c.in_ok-last.ensures.node ∙ (λ i. top (sym held.mode i) (number i) (c.filled.ensures.bytes i)) in
+    c.in_ok-last.ensures.node ∙ (λ i. top (sym held.mode i) (number i) filled) in
     let node = c.finish_with.ensures 10 before filled stands (omega arith)
     (ap (λ n. n % WINDOW_LEN) len ∙ held.aligned alive)
     (omega (arith, held.last is_last, length-filled_bytes c.windows.self.current))

@@ -1,0 +1,108 @@
+//! A name that is opened before the run comes to it.
+
+ghost use Rattle.std.specs.Prelude.{◌≡◌, ◌+◌, ◌-◌, ◌^◌, ◌<◌, [], Some, IsTrue, IsErr, IfOk, IfErr, OnOk, is_err, if◌then◌else◌};
+ghost use Rattle.b3_check.specs.Ahead.{HasOpened, IsFirst, IsOpened, opened_failures};
+ghost use Rattle.b3_check.specs.Contents.{HasContent, IsMissing};
+ghost use Rattle.b3_check.specs.Reading.{IsReadingFault};
+ghost use Rattle.b3_check.specs.Scripts.Kind.{Hashed};
+ghost use Rattle.b3_check.specs.Windows.{failed_reads, filled_bytes, read_to};
+
+use crate::buffer::Buffer;
+use crate::fault::RunFault;
+use crate::options::Limits;
+use crate::shelf::{CannotRead, Shelf};
+use crate::window::{Found, fill, fill_until};
+use std::sync::atomic::AtomicBool;
+
+/// What came of opening a name. Nothing is said of it before the run comes to the name.
+#[derive(Clone, Copy, Debug, PartialEq, Eq)]
+pub enum Opened {
+    /// It cannot be read.
+    Failed,
+    /// A run fault came, which ends the run when it comes to the name.
+    Stopped(RunFault),
+    /// Its file is begun, and its first window read as far as it was; so much is left of its reads.
+    Begun(Limits),
+    /// Its file is read, and ends with its first window.
+    Whole,
+}
+
+// Begins the file of a name, of which nothing is filled yet.
+fn begin<S: Shelf>(shelf: &mut S, buffer: &mut Buffer, name: &str) -> Result<(), CannotRead>
+    requires { S.failures shelf.old < 2 ^ 64 - 1 }
+    ensures bytes { filled_bytes buffer.new ≡ [] }
+    ensures filled { buffer.new.filled ≡ 0 }
+    ensures content { OnOk result (HasContent (S.told shelf.old) name.now (S.left shelf.new)) }
+    ensures sure { IsErr result → IsTrue (S.is_sure shelf.old) → IsMissing (S.told shelf.old) name.now }
+    ensures count { S.failures shelf.new ≡ S.failures shelf.old + (if is_err result then 1 else 0) }
+    ensures told { S.told shelf.new ≡ S.told shelf.old }
+    ensures still_sure { S.is_sure shelf.new ≡ S.is_sure shelf.old }
+{
+    buffer.clear();
+    shelf.begin(name)
+}
+
+/// Reads the first window of a name, of which `ahead` was opened, and answers what is left of its reads. A
+/// run fault comes where the content has not ended after as many reads as `limits` allow.
+pub fn first_window<S: Shelf>(
+    shelf: &mut S,
+    buffer: &mut Buffer,
+    name: &str,
+    ahead: Option<Opened>,
+    limits: Limits,
+) -> Result<(Found, Limits), RunFault>
+    requires ahead { HasOpened (S.told shelf.old) (S.is_sure shelf.old) limits (filled_bytes buffer.old)
+        (S.left shelf.old) (Some name.now) ahead }
+    requires count { S.failures shelf.old < 2 ^ 64 - 1 }
+    requires some_turns { 0 < limits.turns }
+    ensures first { IfOk result (λ read. IsFirst (S.told shelf.old) (S.is_sure shelf.old) limits read.1 name.now
+        (filled_bytes buffer.new) (S.left shelf.new) read.0) }
+    ensures fault { IfErr result (λ fault. IsReadingFault fault (S.told shelf.old) limits Hashed name.now) }
+    ensures count { S.failures shelf.new + opened_failures ahead
+        ≡ S.failures shelf.old + failed_reads (read_to result) }
+    ensures told { S.told shelf.new ≡ S.told shelf.old }
+    ensures still_sure { S.is_sure shelf.new ≡ S.is_sure shelf.old }
+{
+    let mut left = match ahead {
+        None => {
+            if begin(shelf, buffer, name).is_err() {
+                return Ok((Found::Failed, limits));
+            }
+            limits
+        }
+        Some(Opened::Failed) => return Ok((Found::Failed, limits)),
+        Some(Opened::Stopped(fault)) => return Err(fault),
+        Some(Opened::Begun(left)) => left,
+        Some(Opened::Whole) => return Ok((Found::Last, limits)),
+    };
+    let found = fill(shelf, buffer, &mut left)?;
+    Ok((found, left))
+}
+
+/// Begins the file of a name, and reads its first window as far as it comes before `is_enough` is set.
+pub fn open<S: Shelf>(
+    shelf: &mut S,
+    buffer: &mut Buffer,
+    name: &str,
+    limits: Limits,
+    is_enough: &AtomicBool,
+) -> Opened
+    requires count { S.failures shelf.old < 2 ^ 64 - 1 }
+    requires some_turns { 0 < limits.turns }
+    ensures opened { IsOpened (S.told shelf.old) (S.is_sure shelf.old) limits name.now (filled_bytes buffer.new)
+        (S.left shelf.new) result }
+    ensures count { S.failures shelf.new ≡ S.failures shelf.old + opened_failures (Some result) }
+    ensures told { S.told shelf.new ≡ S.told shelf.old }
+    ensures still_sure { S.is_sure shelf.new ≡ S.is_sure shelf.old }
+{
+    if begin(shelf, buffer, name).is_err() {
+        return Opened::Failed;
+    }
+    let mut left = limits;
+    match fill_until(shelf, buffer, &mut left, is_enough) {
+        Ok(Found::More) => Opened::Begun(left),
+        Ok(Found::Last) => Opened::Whole,
+        Ok(Found::Failed) => Opened::Failed,
+        Err(fault) => Opened::Stopped(fault),
+    }
+}
