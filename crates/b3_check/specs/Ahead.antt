@@ -1,6 +1,6 @@
 -- Reading ahead: what came of a name that is opened before the run comes to it, and the scene as if it had
 -- not been opened.
-use Rattle.std.specs.Prelude.{◌≡◌, ◌≢◌, ⊤, ℕ, ◌+◌, ◌-◌, ◌<◌, ◌≤◌, ◌++◌, Bool, if◌then◌else◌, IsSome, List, [], ◌∷◌, Option, None, Some, Result, Ok, Err, length}
+use Rattle.std.specs.Prelude.{◌≡◌, ◌≢◌, ⊤, ℕ, ◌+◌, ◌-◌, ◌*◌, ◌<◌, ◌≤◌, ◌++◌, Bool, if◌then◌else◌, IsSome, List, [], ◌∷◌, Option, None, Some, Result, Ok, Err, length}
 use Rattle.std.specs.Borrow.{Bor}
 use Rattle.std.specs.Option.{option_copied}
 use Rattle.b3_check.specs.declared.buffer.TheConstants.{WINDOW_LEN}
@@ -52,7 +52,7 @@ pub record IsBegun (told : Option Contents) (limits left : Limits) (name filled 
   pub parts : IsSome told → content ≡ filled ++ rest
   pub some : 0 < left.turns
   pub many : limits.turns ≤ left.turns + length filled
-  pub fewer : left.turns ≤ limits.turns
+  pub few : length filled + READ_LEN * left.turns ≤ READ_LEN * limits.turns
   pub little : length filled ≤ WINDOW_LEN + READ_LEN
 
 -- the file ends with what is filled

@@ -67,9 +67,9 @@ fn read_once<S: Shelf>(
     Ok(Found::More)
 }
 
-/// Reads on until the window is full and a further byte is there, which it may be already, or the file ends.
-/// Takes each read from `limits`, which are those of what is left; a run fault comes where the file has not
-/// ended after the last of them.
+/// Reads on until the window is full and a further byte is there, which it may be already, or the file
+/// ends. Takes each read from `limits`, which are those of what is left; a run fault comes where the file
+/// has not ended after the last of them.
 pub fn fill<S: Shelf>(
     shelf: &mut S,
     buffer: &mut Buffer,
@@ -127,7 +127,8 @@ pub fn fill_until<S: Shelf>(
         → filled_bytes buffer.old ++ S.left shelf.old ≡ filled_bytes buffer.new ++ S.left shelf.new }
     ensures last_bytes { result ≡ Ok Last → IsSome (S.told shelf.old)
         → filled_bytes buffer.old ++ S.left shelf.old ≡ filled_bytes buffer.new }
-    ensures fewer { OnOk result (limits.new.turns ≤ limits.old.turns) }
+    ensures few { OnOk result (buffer.new.filled + READ_LEN * limits.new.turns
+        ≤ buffer.old.filled + READ_LEN * limits.old.turns) }
     ensures many { result ≡ Ok More
         → limits.old.turns + buffer.old.filled ≤ limits.new.turns + buffer.new.filled }
     ensures fault { IfErr result (λ fault.

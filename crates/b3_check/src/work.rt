@@ -1,7 +1,7 @@
 //! The loop that both engines go through.
 
-ghost use Rattle.std.specs.Prelude.{◌≡◌, ◌+◌, ◌-◌, ◌^◌, ◌<◌, ◌≤◌, [], ◌∷◌, Some, true, length, IfOk};
-ghost use Rattle.b3_check.specs.Ahead.{GivesAhead, IsAhead, RunsAhead, first_name, next_tasks, unopened};
+ghost use Rattle.std.specs.Prelude.{◌≡◌, ◌+◌, ◌-◌, ◌^◌, ◌<◌, ◌≤◌, Some, true, length, IfOk};
+ghost use Rattle.b3_check.specs.Ahead.{GivesAhead, IsAhead, RunsAhead, first_name, next_tasks, task_name, unopened};
 ghost use Rattle.b3_check.specs.Desks.{left_of, loans, scene_of};
 ghost use Rattle.b3_check.specs.Runs.{HasRoom, Runs};
 ghost use Rattle.b3_check.specs.Tallies.{counted};
@@ -99,14 +99,14 @@ impl<'c, R: Threads + Wait + Sync, G: Gate + Sync> Worker<'c, R, G> {
         requires fit { IsFitItem self.old.digester.output.length item.now }
         requires ahead { IsAhead self.old.limits (scene_of S.Shelf O.Sink E.Sink desk.old)
             (filled_bytes self.old.digester.current) (left_of S.Shelf desk.old)
-            (first_name (task_of item.now ∷ [])) ahead }
+            (task_name (task_of item.now)) ahead }
         requires room { HasRoom (unopened ahead (scene_of S.Shelf O.Sink E.Sink desk.old)) 1 }
         ensures run { RunsAhead self.old.limits self.old.digester.output (task_of item.now) (next_tasks next.entry)
-            (unopened ahead (scene_of S.Shelf O.Sink E.Sink desk.old)) (scene_of S.Shelf O.Sink E.Sink desk.new)
-            result }
+            (unopened ahead (scene_of S.Shelf O.Sink E.Sink desk.old))
+            (scene_of S.Shelf O.Sink E.Sink desk.new) result }
         ensures ahead { IfOk result (λ done. IsAhead self.old.limits (scene_of S.Shelf O.Sink E.Sink desk.new)
-            (filled_bytes self.new.digester.current) (left_of S.Shelf desk.new) (first_name (next_tasks next.entry))
-            done.1) }
+            (filled_bytes self.new.digester.current) (left_of S.Shelf desk.new)
+            (first_name (next_tasks next.entry)) done.1) }
         ensures one { IfOk result (λ done. counted done.0 ≡ 1) }
         ensures loans { loans desk.new ≡ loans desk.old }
         ensures limits { self.new.limits ≡ self.old.limits }
@@ -139,11 +139,11 @@ impl<'c, R: Threads + Wait + Sync, G: Gate + Sync> Worker<'c, R, G> {
         requires room { HasRoom (unopened ahead (scene_of S.Shelf O.Sink E.Sink desk.old)) 1 }
         ensures gives { GivesAhead self.old.limits self.old.digester.output (name_asked subject.now)
             (subject_report subject.now) (next_tasks next.entry)
-            (unopened ahead (scene_of S.Shelf O.Sink E.Sink desk.old)) (scene_of S.Shelf O.Sink E.Sink desk.new)
-            result }
+            (unopened ahead (scene_of S.Shelf O.Sink E.Sink desk.old))
+            (scene_of S.Shelf O.Sink E.Sink desk.new) result }
         ensures ahead { IfOk result (λ done. IsAhead self.old.limits (scene_of S.Shelf O.Sink E.Sink desk.new)
-            (filled_bytes self.new.digester.current) (left_of S.Shelf desk.new) (first_name (next_tasks next.entry))
-            done.1) }
+            (filled_bytes self.new.digester.current) (left_of S.Shelf desk.new)
+            (first_name (next_tasks next.entry)) done.1) }
         ensures loans { loans desk.new ≡ loans desk.old }
         ensures limits { self.new.limits ≡ self.old.limits }
         ensures output { self.new.digester.output ≡ self.old.digester.output }

@@ -1,5 +1,5 @@
-// Names that are opened while the one before is hashed. The gate does not say that it holds no worker, so the
-// next name is opened however small a file is.
+// Names that are opened while the one before is hashed. Behind a gate that does not say that it holds no
+// worker, the next name is opened however small a file is.
 
 ghost use Rattle.std.specs.Prelude.{◌≡◌, ◌^◌, ◌≤◌, length};
 
@@ -8,6 +8,7 @@ use crate::tests::lettered_files::{LetteredFiles, number_in};
 use crate::tests::workers::Yielding;
 use crate::tests::{check_options, options, pattern, tally};
 use crate::{MemorySink, RunFault, Tally, run_check, run_sum};
+use b3_board::{Gate, OpenGate};
 use b3_hash::hash;
 use b3_lines::write_line;
 use std::alloc::Global;
@@ -105,11 +106,12 @@ fn a_thousand_names(rt: HostRuntime) -> Result<(), Fail> {
 }
 
 // Sums names of the same shelf, and answers what was begun, and what was written.
-fn sum<R: Abort + Threads + Wait + Sync>(
+fn sum<R: Abort + Threads + Wait + Sync, G: Gate + Sync>(
     rt: &R,
     alloc: Global,
     names: &[&str],
     most: usize,
+    gate: &G,
 ) -> Result<(Result<Tally, RunFault>, Vec<u8>, Vec<u8>, u64), Fail> {
     let content = pattern(alloc, 5_000)?;
     let mut asked = Vec::new(alloc);
@@ -128,7 +130,7 @@ fn sum<R: Abort + Threads + Wait + Sync>(
         &mut out,
         &mut err,
         &options(4, 0),
-        &Yielding,
+        gate,
     );
     let begun = Vec::from_slice(alloc, shelf.begun())?;
     let written = Vec::from_slice(alloc, out.bytes.as_slice())?;
@@ -146,7 +148,7 @@ fn line_of(alloc: Global, name: &str) -> Result<Vec<u8>, Fail> {
 #[test]
 fn a_name_asked_twice_in_a_row_is_begun_twice(rt: HostRuntime) -> Result<(), Fail> {
     let line = line_of(rt.alloc(), "g7")?;
-    let (answer, begun, written, _) = sum(&rt, rt.alloc(), &["g7", "g7"], 1_000)?;
+    let (answer, begun, written, _) = sum(&rt, rt.alloc(), &["g7", "g7"], 1_000, &Yielding)?;
     assert_eq!(&rt; answer, Ok(tally(2, 0, 0)));
     assert_eq!(&rt; begun.as_slice(), b"g7\ng7\n".as_slice());
     let mut lines = Vec::from_slice(rt.alloc(), line.as_slice())?;
@@ -160,7 +162,13 @@ fn a_name_asked_twice_in_a_row_is_begun_twice(rt: HostRuntime) -> Result<(), Fai
 fn a_write_that_fails_behind_a_failure_ahead(rt: HostRuntime) -> Result<(), Fail> {
     let line = line_of(rt.alloc(), "g7")?;
     for taken in 0..line.len() {
-        let (answer, begun, written, failures) = sum(&rt, rt.alloc(), &["g7", "m1", "g1"], taken)?;
+        let (answer, begun, written, failures) = sum(
+            &rt,
+            rt.alloc(),
+            &["g7", "m1", "g1"],
+            taken,
+            &Yielding,
+        )?;
         assert_eq!(&rt; answer, Err(RunFault::WriteFault));
         assert_eq!(&rt; begun.as_slice(), b"g7\nm1\n".as_slice());
         assert_eq!(&rt; written.as_slice(), &line.as_slice()[..taken]);
@@ -169,18 +177,30 @@ fn a_write_that_fails_behind_a_failure_ahead(rt: HostRuntime) -> Result<(), Fail
     Ok(())
 }
 
-// Four reads of a thousand bytes are too few for the second file. Its fault comes behind the first line.
+// A small file starts no thread: the name behind it is begun when its line is written.
+#[test]
+fn a_small_file_holds_no_line_back(rt: HostRuntime) -> Result<(), Fail> {
+    let (answer, begun, _, failures) = sum(&rt, rt.alloc(), &["g3000", "m1"], 0, &OpenGate)?;
+    assert_eq!(&rt; answer, Err(RunFault::WriteFault));
+    assert_eq!(&rt; begun.as_slice(), b"g3000\n".as_slice());
+    assert_eq!(&rt; failures, 0);
+    Ok(())
+}
+
+// Four reads, of which the last one finds the end, are too few for the second file. Its fault comes behind
+// the first line.
 #[test]
 fn a_fault_ahead_comes_behind_the_line(rt: HostRuntime) -> Result<(), Fail> {
-    let line = line_of(rt.alloc(), "g3999")?;
+    let line = line_of(rt.alloc(), "g3000")?;
     let (answer, begun, written, failures) = sum(
         &rt,
         rt.alloc(),
-        &["g3999", "g4000", "m1"],
+        &["g3000", "g3001", "m1"],
         1_000,
+        &Yielding,
     )?;
     assert_eq!(&rt; answer, Err(RunFault::EndlessInput));
-    assert_eq!(&rt; begun.as_slice(), b"g3999\ng4000\n".as_slice());
+    assert_eq!(&rt; begun.as_slice(), b"g3000\ng3001\n".as_slice());
     assert_eq!(&rt; written.as_slice(), line.as_slice());
     assert_eq!(&rt; failures, 0);
     Ok(())

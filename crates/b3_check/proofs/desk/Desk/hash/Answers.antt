@@ -16,7 +16,7 @@ returns-clause-hashed g c =
 pub returns-clause-opened : goal.returns-clause-opened
 returns-clause-opened g c =
     let hashed = c.hash_name.ensures in
-    let table = c.args.self.now in
-    ahead_hashed _ _ _ _ (scene g.S.Shelf g.O.Sink g.E.Sink table.shelf.now table.out.now table.err.now) _ c.args.ahead
-    c.hash_name.result hashed.told hashed.still_sure hashed.count
+    let desk = c.args.self.now in
+    let before = scene g.S.Shelf g.O.Sink g.E.Sink desk.shelf.now desk.out.now desk.err.now in
+    ahead_hashed _ _ _ _ before _ c.args.ahead c.hash_name.result hashed.told hashed.still_sure hashed.count
     c.requires.ahead.count hashed.opened

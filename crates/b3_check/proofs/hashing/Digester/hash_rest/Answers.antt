@@ -33,8 +33,8 @@ returns-in_err-next-clause-fault g c =
     let whole = length-append (filled_bytes first) (shelf.left c.args.shelf.now) in
     let len = length-append held.before (filled_bytes current ++ shelf.left c.windows.shelf) in
     let rest = length-append (filled_bytes current) (shelf.left c.windows.shelf) in
-    let hashed =
-    length-StandsFor c.windows.hasher held.before (held.stands (More-not-Failed c.windows.found is_more)) in
+    let stands = held.stands (More-not-Failed c.windows.found is_more) in
+    let hashed = length-StandsFor c.windows.hasher held.before stands in
     omega (
       arith,
       longer,

@@ -54,14 +54,12 @@ returns-in_err-one-clause-run g c =
     let left = left-next next _ _ c.in_ok-next-2.ensures.next ∙ behind.1 in
     let so_far = rw (c.in-Some.is, left) at held.so_far in
     let tasks = task_of c.in-Some.item ∷ item_tasks next in
-    let run : Stopped c.loop-next.self.limits (tasks_script c.loop-next.self.digester.output tasks)
-    (unopened c.loop-next.ahead (scene_of g.S.Shelf g.O.Sink g.E.Sink c.loop-next.desk))
-    (scene_of g.S.Shelf g.O.Sink g.E.Sink c.run_item.new.desk)
+    let before = unopened c.loop-next.ahead (scene_of g.S.Shelf g.O.Sink g.E.Sink c.loop-next.desk) in
+    let after = scene_of g.S.Shelf g.O.Sink g.E.Sink c.run_item.new.desk in
+    let run : Stopped c.loop-next.self.limits (tasks_script c.loop-next.self.digester.output tasks) before after
     c.in_err-one.field-0.0 = rw c.as_ref.ensures.value at c.in_err-one.ensures.run in
-    let stopped = subst (λ (output : Output). Stopped c.args.self.now.limits (tasks_script output tasks)
-    (unopened c.loop-next.ahead (scene_of g.S.Shelf g.O.Sink g.E.Sink c.loop-next.desk))
-    (scene_of g.S.Shelf g.O.Sink g.E.Sink c.run_item.new.desk) c.in_err-one.field-0.0) held.output
-    (rw held.limits at run) in
+    let stopped = subst (λ (output : Output). Stopped c.args.self.now.limits (tasks_script output tasks) before after
+    c.in_err-one.field-0.0) held.output (rw held.limits at run) in
     rw (p.1, p.2) (so_far_stopped so_far
     (stopped_first c.args.self.now.digester.output tasks behind.0 stopped))
 
