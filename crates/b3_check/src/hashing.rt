@@ -165,8 +165,8 @@ impl Digester {
     }
 
     // Hashes the last window, whose chunks are numbered from `first`. Where that takes longer than a thread
-    // takes to start, the name `next` is opened meanwhile; else it is left to the run, so that no line waits
-    // for it.
+    // takes to start, and the name `next` is not long in coming, it is opened meanwhile; else it is left to
+    // the run, so that no line waits for it.
     fn last_window<R: Threads + Wait + Sync, G: Gate + Sync, S: Shelf + Send>(
         &mut self,
         crew: &Crew<'_, R, G>,
@@ -189,7 +189,7 @@ impl Digester {
         ensures output { self.new.output ≡ self.old.output }
     {
         match next {
-            Some(name) if crew.is_worth_a_thread(self.current.len()) => {
+            Some(name) if crew.is_worth_a_thread(self.current.len()) && !shelf.may_wait(name) => {
                 let (node, ahead) = self.hash_and_open(crew, shelf, first, name, limits);
                 Ok((node, Some(ahead)))
             }

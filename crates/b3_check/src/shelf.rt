@@ -49,4 +49,10 @@ pub trait Shelf {
         ensures sure { IsTrue (is_sure self.old) → IsOk result }
         ensures told { told self.new ≡ told self.old }
         ensures still_sure { is_sure self.new ≡ is_sure self.old };
+
+    /// Whether the bytes of this name may be long in coming, as those of a terminal or a socket. Such a name
+    /// is not begun before the run comes to it, so that no line waits for it.
+    fn may_wait(&self, _name: &str) -> bool {
+        true
+    }
 }

@@ -126,4 +126,17 @@ impl<F: Files, I: Read> Shelf for FileShelf<'_, F, I> {
             Err(_) => Err(self.fail()),
         }
     }
+
+    /// The input may, and whatever is no plain file.
+    fn may_wait(&self, name: &str) -> bool
+        ensures input { name.now ≡ codes "-" → result ≡ true }
+    {
+        if name == INPUT_NAME {
+            return true;
+        }
+        match self.files.metadata(name) {
+            Ok(metadata) => !metadata.is_file(),
+            Err(_) => true,
+        }
+    }
 }

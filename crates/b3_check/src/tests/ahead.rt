@@ -187,6 +187,16 @@ fn a_small_file_holds_no_line_back(rt: HostRuntime) -> Result<(), Fail> {
     Ok(())
 }
 
+// A name that may be long in coming is begun when the line before it is written, behind any gate.
+#[test]
+fn a_slow_name_holds_no_line_back(rt: HostRuntime) -> Result<(), Fail> {
+    let (answer, begun, _, failures) = sum(&rt, rt.alloc(), &["g3000", "s1"], 0, &Yielding)?;
+    assert_eq!(&rt; answer, Err(RunFault::WriteFault));
+    assert_eq!(&rt; begun.as_slice(), b"g3000\n".as_slice());
+    assert_eq!(&rt; failures, 0);
+    Ok(())
+}
+
 // Four reads, of which the last one finds the end, are too few for the second file. Its fault comes behind
 // the first line.
 #[test]

@@ -75,4 +75,8 @@ impl Shelf for FaultyFiles {
         }
         self.files.read(room)
     }
+
+    fn may_wait(&self, _name: &str) -> bool {
+        false
+    }
 }

@@ -6,7 +6,7 @@ use crate::shelf::{CannotRead, Shelf};
 use std::alloc::Global;
 
 /// A name is a letter and a number of bytes: `g` is a file of so many bytes of the content, `f` one that fails
-/// at its second read, and `m` is not there. The name `l` has the list.
+/// at its second read, `m` is not there, and `s` is a file that may be long in coming. The name `l` has the list.
 #[derive(Drop)]
 pub struct LetteredFiles<'a> {
     content: &'a [u8],
@@ -107,5 +107,9 @@ impl Shelf for LetteredFiles<'_> {
         room[..count].copy_from_slice(&self.rest[..count]);
         self.rest = &self.rest[count..];
         Ok(count)
+    }
+
+    fn may_wait(&self, name: &str) -> bool {
+        name.starts_with("s")
     }
 }
