@@ -80,8 +80,9 @@ impl Digester {
     }
 
     /// Hashes the content of a name (BLAKE3 (2020), 2.6), of which `ahead` was opened, and answers whether
-    /// it can be read. A run fault comes where the content has not ended after as many reads as `limits`
-    /// allow.
+    /// it can be read. The name `next` may be opened while the last window is hashed, and what came of it is
+    /// answered too. A run fault comes where the content has not ended after as many reads as `limits` allow,
+    /// and where memory is refused.
     pub fn hash_name<R: Threads + Wait + Sync, G: Gate + Sync, S: Shelf + Send>(
         &mut self,
         crew: &Crew<'_, R, G>,

@@ -21,9 +21,10 @@ pub enum Opened {
     Failed,
     /// A run fault came, which ends the run when it comes to the name.
     Stopped(RunFault),
-    /// Its file is begun, and its first window read as far as it was; so much is left of its reads.
+    /// Its file is begun, and has not ended with what is filled of its first window; these limits are what
+    /// is left of its reads.
     Begun(Limits),
-    /// Its file is read, and ends with its first window.
+    /// Its file is read to its end, and is one window.
     Whole,
 }
 

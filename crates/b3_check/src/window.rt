@@ -15,19 +15,19 @@ use crate::options::Limits;
 use crate::shelf::Shelf;
 use std::sync::atomic::{AtomicBool, Ordering};
 
-/// What reading a window came to.
+/// What reading came to, of a window or of a part of one.
 #[derive(Clone, Copy, Debug, PartialEq, Eq)]
 pub enum Found {
-    /// The window is full, and bytes come behind it.
+    /// The file has not ended yet.
     More,
-    /// The file ends with the window.
+    /// The file has ended: what is filled is its last window.
     Last,
     /// A read failed.
     Failed,
 }
 
-/// One read behind what is filled, which takes a turn from `limits`. `More` says that it gave bytes; a run
-/// fault comes where it gave bytes and was the last of them.
+// One read behind what is filled, which takes a turn from `limits`. It answers `More` where it gave bytes and
+// a turn is left; a run fault comes where it gave bytes and none is.
 fn read_once<S: Shelf>(
     shelf: &mut S,
     buffer: &mut Buffer,
@@ -68,8 +68,8 @@ fn read_once<S: Shelf>(
 }
 
 /// Reads on until the window is full and a further byte is there, which it may be already, or the file
-/// ends. Takes each read from `limits`, which are those of what is left; a run fault comes where the file
-/// has not ended after the last of them.
+/// ends. So it answers `More` only of a full window that is not the last. It takes each read from `limits`,
+/// which are those of what is left; a run fault comes where the file has not ended after the last of them.
 pub fn fill<S: Shelf>(
     shelf: &mut S,
     buffer: &mut Buffer,
@@ -109,8 +109,8 @@ pub fn fill<S: Shelf>(
     Ok(Found::More)
 }
 
-/// Reads on as `fill` does, but leaves off as soon as `is_enough` is set. `More` says no more than that the
-/// file has not ended yet.
+/// Reads on as `fill` does, but leaves off as soon as `is_enough` is set: it answers `More` of a window that
+/// is full to any part too.
 pub fn fill_until<S: Shelf>(
     shelf: &mut S,
     buffer: &mut Buffer,
