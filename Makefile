@@ -53,8 +53,7 @@ soak: b3sum
 	tools/soak
 
 bench: b3sum
-	tools/bench
-	tools/lanes $(CPU)
+	tools/bench $(CPU)
 	tools/workers $(CPU)
 
 audit:
