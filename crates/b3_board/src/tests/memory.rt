@@ -4,7 +4,7 @@ ghost use Rattle.std.specs.Prelude.{◌≡◌};
 ghost use Rattle.b3_board.specs.Plans.{IsPlanOf};
 
 use super::span;
-use crate::{Board, BoardFault, Claims, OpenGate, Plan, Planned, worker};
+use crate::{Board, BoardFault, Claims, OpenGate, Plan, Planned, default_grain, worker};
 use b3_core::{Mode, Span};
 use std::alloc::Global;
 use std::marker::Brand;
@@ -102,7 +102,8 @@ pub(super) fn last_growth(alloc: Global) -> Result<(), BoardFault> {
 }
 
 // Makes a board and claims, then perhaps calls everything that is said to take no memory: seats and shares are split
-// and joined, work is deposited and refused, a worker runs, the board is swept and the claims are closed.
+// and joined, the share is audited, work is deposited and refused, a worker runs, the board is swept and the claims
+// are closed.
 fn growths_on<'a, L: Planned, R: Wait + Abort>(
     rt: &R,
     alloc: Global,
@@ -121,6 +122,9 @@ fn growths_on<'a, L: Planned, R: Wait + Abort>(
         return last_growth(alloc);
     }
     let other = claims.split(&mut seat);
+    let part = share.split();
+    share.join(part);
+    board.audit(&mut share);
     let theirs = share.split();
     for _ in 0..2usize {
         let done = plan.job(0).expect(rt, "a job").work();
@@ -129,6 +133,8 @@ fn growths_on<'a, L: Planned, R: Wait + Abort>(
     let board = Mutex::new(board);
     let ended = worker(rt, plan, &board, &claims, other, theirs, 1, &OpenGate);
     let mut board = board.into_inner();
+    assert!(rt; board.is_over(plan));
+    assert_eq!(rt; default_grain(3), 16);
     claims.join(&mut seat, ended.seat);
     assert_eq!(rt; board.sweep(&mut share), 0);
     assert_eq!(rt; (share.chunks(), ended.share.chunks()), (1, 2));

@@ -18,7 +18,7 @@ use std::sync::atomic::{AtomicU64, Ordering};
 use std::sync::ledger::Blank;
 use std::sync::{Mutex, Wait};
 use std::test::Fail;
-use std::thread;
+use std::thread::{self, Threads};
 
 // Holds the first call until another one has come, for at most a million turns. It keeps the sums of the workers' and
 // the spans' numbers that it is told.
@@ -166,25 +166,41 @@ fn two_workers_a_thousand_times(rt: HostRuntime) -> Result<(), Fail> {
     Ok(())
 }
 
-// A run that meets want of memory is made again.
-#[test]
-fn refused_memory_of_a_run(rt: HostRuntime) -> Result<(), Fail> {
-    let alloc = rt.alloc();
+// How many of two runs of four workers ended with an answer: one that meets want of memory is made again.
+fn answers_of_two<R: Threads + Wait + Abort + Sync, G: Gate + Sync>(
+    rt: &R,
+    alloc: Global,
+    gate: &G,
+) -> u32 {
     let input = [7; 20 * 1024];
     let mut answers = 0u32;
     for _ in 0..2usize {
         let Ok(plan) = Plan::new(alloc, &input, Mode::hash(), 1) else {
             continue;
         };
-        match hash_parallel(&rt, alloc, &plan, 4, &OpenGate) {
+        match hash_parallel(rt, alloc, &plan, 4, gate) {
             Ok(report) => {
-                assert_report(&rt, &plan, 4, &report);
+                assert_report(rt, &plan, 4, &report);
                 answers = answers.wrapping_add(1);
             }
-            Err(fault) => assert_eq!(&rt; fault, BoardFault::Memory),
+            Err(fault) => assert_eq!(rt; fault, BoardFault::Memory),
         }
     }
-    assert!(&rt; answers > 0);
+    answers
+}
+
+#[test]
+fn refused_memory_of_a_run(rt: HostRuntime) -> Result<(), Fail> {
+    let alloc = rt.alloc();
+    assert!(&rt; answers_of_two(&rt, alloc, &OpenGate) > 0);
+    assert!(&rt; last_growth(alloc).is_ok(), "refused behind the last call");
+    Ok(())
+}
+
+#[test]
+fn refused_memory_of_a_run_in_four_threads(rt: HostRuntime) -> Result<(), Fail> {
+    let alloc = rt.alloc();
+    assert!(&rt; answers_of_two(&rt, alloc, &Yielding) > 0);
     assert!(&rt; last_growth(alloc).is_ok(), "refused behind the last call");
     Ok(())
 }
