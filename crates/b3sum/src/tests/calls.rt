@@ -55,8 +55,8 @@ fn assert_call<R: Abort + Threads + Wait + Sync, S: Shelf + Send>(
     Ok(())
 }
 
-// A call over the program's own shelf, with no file but its input. It is a macro, since what a function sends to a thread
-// may not rest on a bound of its own.
+// A call over the program's own shelf, with no file but its input. It is a macro, since what a function sends to
+// a thread may not rest on a bound of its own.
 macro_rules! assert_piped {
     ($rt:expr, $input:expr, $words:expr, $out:expr, $err:expr, $status:expr $(,)?) => {{
         let input: &[u8] = $input;

@@ -1,6 +1,8 @@
-// What `clap` reads of words.
+// What `clap` reads of words, and that settling them takes no memory.
 
 use crate::stop::Stop;
+use crate::task::{Task, settle};
+use crate::usage::Usage;
 use crate::words::Words;
 use b3_check::MAX_OUTPUT_LEN;
 use std::alloc::{AllocError, Global};
@@ -139,6 +141,36 @@ fn words_that_are_not_taken(rt: HostRuntime) {
         alloc,
         &["--stray"],
         "unexpected argument '--stray' found",
+    );
+}
+
+// Words of which two say how the line is written.
+fn words_of_a_sum(alloc: Global, tag: bool, no_names: bool) -> Words {
+    Words {
+        check: false,
+        keyed: false,
+        derive_key: None,
+        length: None,
+        seek: Some(1),
+        raw: false,
+        no_names,
+        tag,
+        quiet: false,
+        num_threads: None,
+        files: Vec::new(alloc),
+    }
+}
+
+/// Each growth is refused in turn by `make refused`.
+#[test]
+fn settling_words_takes_no_memory(rt: HostRuntime) {
+    let task = settle(words_of_a_sum(rt.alloc(), true, false));
+    assert!(rt; matches!(task, Ok(Task::Sum(..))));
+    let task = settle(words_of_a_sum(rt.alloc(), true, true));
+    assert!(rt; matches!(task, Err(Usage::TagExcludes("--no-names"))));
+    assert!(rt;
+        String::from_str(rt.alloc(), "x").is_ok(),
+        "refused behind the last call"
     );
 }
 
