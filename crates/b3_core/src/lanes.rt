@@ -92,8 +92,9 @@ fn permuted8(m: &[u32x8; 16]) -> [u32x8; 16]
     ]
 }
 
-// Seven rounds, written out: a loop would move the message through memory for each permutation.
-#[inline(always)]
+// Seven rounds, written out: a loop would move the message through memory for each permutation. All that is
+// done on lanes shares them: they are long, and would be in the program once for each caller if they were inlined.
+#[inline(never)]
 fn rounds8(v: [u32x8; 16], m: &[u32x8; 16]) -> [u32x8; 16]
     requires wide { AreWide 16 v }
     requires message { AreWide 16 m.now }
@@ -185,8 +186,7 @@ pub(crate) fn back8(v: &[u32x8; 16], h: &[u32x8; 8]) -> [u32x8; 8]
 }
 
 // The chaining values of eight compressions, of the chaining values `h`, the messages `m`, the low and
-// high words of the counters, one block length `b` and one set of flags `d`. Chunks and parents share
-// it: it is long, and would be in the program once for each caller if it were inlined.
+// high words of the counters, one block length `b` and one set of flags `d`. Chunks and parents share it.
 #[inline(never)]
 pub(crate) fn chainings8(
     h: &[u32x8; 8],
@@ -432,9 +432,9 @@ pub(crate) fn counters_from(first: u64) -> (u32x8, u32x8)
 }
 
 // The state after seven rounds of eight compressions, of the chaining values `h`, the messages `m`, the low
-// and high words of the counters, one block length `b` and one set of flags `d`. What needs all sixteen
-// output words shares it, as chunks and parents share `chainings8`.
-#[inline(never)]
+// and high words of the counters, one block length `b` and one set of flags `d`, for what needs all sixteen
+// output words. A call of its own would copy the sixteen vectors once more each way.
+#[inline(always)]
 pub(crate) fn states8(
     h: &[u32x8; 8],
     m: &[u32x8; 16],
