@@ -10,6 +10,7 @@ mod faults;
 mod faulty_files;
 mod lettered_files;
 mod memory;
+mod overlap;
 mod plain_lines;
 mod random;
 mod recording;

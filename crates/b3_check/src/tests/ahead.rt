@@ -82,12 +82,14 @@ fn said_of(alloc: Global, content: &[u8], names: &[String]) -> Result<Expected, 
 }
 
 // The names are begun once each, in order; the texts are those of one name after the other.
-#[test]
-fn a_thousand_names(rt: HostRuntime) -> Result<(), Fail> {
-    let alloc = rt.alloc();
+fn assert_thousand<R: Abort + Threads + Wait + Sync, G: Gate + Sync>(
+    rt: &R,
+    alloc: Global,
+    gate: &G,
+) -> Result<(), Fail> {
     let content = pattern(alloc, 3_000)?;
     let names = names(alloc, 1_000)?;
-    assert!(&rt; names.len() == 1_000);
+    assert!(rt; names.len() == 1_000);
     let said = said_of(alloc, content.as_slice(), &names)?;
     let mut shelf = LetteredFiles::new(alloc, content.as_slice(), b"", 700);
     let mut out = MemorySink::new(alloc);
@@ -95,14 +97,24 @@ fn a_thousand_names(rt: HostRuntime) -> Result<(), Fail> {
     let mut asked = options(6, 0);
     asked.workers = 1;
     let answer = run_sum(
-        &rt, alloc, &mut shelf, &names, &mut out, &mut err, &asked, &Yielding,
+        rt, alloc, &mut shelf, &names, &mut out, &mut err, &asked, gate,
     );
-    assert_eq!(&rt; answer, Ok(tally(said.ok, said.failed, 0)));
-    assert_eq!(&rt; out.bytes(), said.out.as_slice());
-    assert_eq!(&rt; err.bytes(), said.err.as_slice());
-    assert_eq!(&rt; shelf.begun(), in_order(alloc, &names)?.as_slice());
-    assert_eq!(&rt; shelf.failures(), said.failed);
+    assert_eq!(rt; answer, Ok(tally(said.ok, said.failed, 0)));
+    assert_eq!(rt; out.bytes(), said.out.as_slice());
+    assert_eq!(rt; err.bytes(), said.err.as_slice());
+    assert_eq!(rt; shelf.begun(), in_order(alloc, &names)?.as_slice());
+    assert_eq!(rt; shelf.failures(), said.failed);
     Ok(())
+}
+
+#[test]
+fn a_thousand_names_ahead(rt: HostRuntime) -> Result<(), Fail> {
+    assert_thousand(&rt, rt.alloc(), &Yielding)
+}
+
+#[test]
+fn a_thousand_names_none_of_them_ahead(rt: HostRuntime) -> Result<(), Fail> {
+    assert_thousand(&rt, rt.alloc(), &OpenGate)
 }
 
 // Sums names of the same shelf, and answers what was begun, and what was written.
@@ -189,7 +201,7 @@ fn a_small_file_holds_no_line_back(rt: HostRuntime) -> Result<(), Fail> {
 
 // A name that may be long in coming is begun when the line before it is written, behind any gate.
 #[test]
-fn a_slow_name_holds_no_line_back(rt: HostRuntime) -> Result<(), Fail> {
+fn a_name_long_in_coming_holds_no_line_back(rt: HostRuntime) -> Result<(), Fail> {
     let (answer, begun, _, failures) = sum(&rt, rt.alloc(), &["g3000", "s1"], 0, &Yielding)?;
     assert_eq!(&rt; answer, Err(RunFault::WriteFault));
     assert_eq!(&rt; begun.as_slice(), b"g3000\n".as_slice());

@@ -99,8 +99,11 @@ fn assert_sum<R: Abort + Threads + Wait + Sync, S: Shelf + Send>(
 fn assert_in_turn<R: Abort + Threads + Wait + Sync>(
     rt: &R,
     alloc: Global,
+    workers: u32,
     files: &[(u64, &str)],
-) -> Result<(), Fail> {
+) -> Result<(), Fail>
+    requires { (1 ≤ workers) × (workers ≤ 64) }
+{
     for (length, digest) in files {
         let mut shelf = MemoryShelf::new(alloc);
         let mut out = MemorySink::new(alloc);
@@ -113,7 +116,8 @@ fn assert_in_turn<R: Abort + Threads + Wait + Sync>(
             String::from_str(alloc, "b")?,
             String::from_str(alloc, "c")?,
         ];
-        let asked = options(100, 0);
+        let mut asked = options(100, 0);
+        asked.workers = workers;
         let answer = run_sum(
             rt, alloc, &mut shelf, &names, &mut out, &mut err, &asked, &OpenGate,
         );
@@ -131,27 +135,48 @@ fn assert_in_turn<R: Abort + Threads + Wait + Sync>(
 
 #[test]
 fn files_around_one_window(rt: HostRuntime) -> Result<(), Fail> {
-    assert_in_turn(&rt, rt.alloc(), &ONE)
+    assert_in_turn(&rt, rt.alloc(), 1, &ONE)?;
+    assert_in_turn(&rt, rt.alloc(), 4, &ONE)
 }
 
 #[test]
 fn files_around_two_windows(rt: HostRuntime) -> Result<(), Fail> {
-    assert_in_turn(&rt, rt.alloc(), &TWO)
+    assert_in_turn(&rt, rt.alloc(), 1, &TWO)?;
+    assert_in_turn(&rt, rt.alloc(), 4, &TWO)
 }
 
 #[test]
 fn files_around_three_windows(rt: HostRuntime) -> Result<(), Fail> {
-    assert_in_turn(&rt, rt.alloc(), &THREE)
+    assert_in_turn(&rt, rt.alloc(), 1, &THREE)?;
+    assert_in_turn(&rt, rt.alloc(), 4, &THREE)
+}
+
+fn assert_by_bytes<R: Abort + Threads + Wait + Sync>(
+    rt: &R,
+    alloc: Global,
+    files: &[(u64, &str)],
+) -> Result<(), Fail> {
+    for (length, digest) in files {
+        let content = pattern(alloc, *length)?;
+        let mut shelf = OneByteShelf::new(content.as_slice());
+        assert_sum(rt, alloc, &mut shelf, 4_000_000, *digest)?;
+    }
+    Ok(())
 }
 
 #[test]
-fn one_byte_a_read(rt: HostRuntime) -> Result<(), Fail> {
-    for (length, digest) in ONE {
-        let content = pattern(rt.alloc(), length)?;
-        let mut shelf = OneByteShelf::new(content.as_slice());
-        assert_sum(&rt, rt.alloc(), &mut shelf, 2_000_000, digest)?;
-    }
-    Ok(())
+fn one_byte_a_read_around_one_window(rt: HostRuntime) -> Result<(), Fail> {
+    assert_by_bytes(&rt, rt.alloc(), &ONE)
+}
+
+#[test]
+fn one_byte_a_read_around_two_windows(rt: HostRuntime) -> Result<(), Fail> {
+    assert_by_bytes(&rt, rt.alloc(), &TWO)
+}
+
+#[test]
+fn one_byte_a_read_around_three_windows(rt: HostRuntime) -> Result<(), Fail> {
+    assert_by_bytes(&rt, rt.alloc(), &THREE)
 }
 
 // Pieces of such a length begin in one window and end in the next.

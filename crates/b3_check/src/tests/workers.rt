@@ -154,7 +154,7 @@ fn a_hundred_files_behind_an_open_gate(rt: HostRuntime) -> Result<(), Fail> {
     assert_runs(&rt, rt.alloc(), 4, &OpenGate)
 }
 
-// Two of three spans are hashed at the same time.
+// Two of three spans are hashed at the same time, and each of them once.
 #[test]
 fn two_at_once(rt: HostRuntime) -> Result<(), Fail> {
     let alloc = rt.alloc();
@@ -173,6 +173,7 @@ fn two_at_once(rt: HostRuntime) -> Result<(), Fail> {
     assert_eq!(&rt; answer, Ok(tally(1, 0, 0)));
     assert_eq!(&rt; out.bytes(), line.as_slice());
     assert_eq!(&rt; gate.met.load(Ordering::SeqCst), 1);
+    assert_eq!(&rt; gate.calls.load(Ordering::SeqCst), 3);
 
     let mut shelf = GrowingShelf::new(content.as_slice(), 40_000, line.as_slice());
     let mut out = MemorySink::new(alloc);
@@ -186,6 +187,33 @@ fn two_at_once(rt: HostRuntime) -> Result<(), Fail> {
     assert_eq!(&rt; answer, Ok(tally(1, 0, 0)));
     assert_eq!(&rt; out.bytes(), b"aa: OK\n".as_slice());
     assert_eq!(&rt; gate.met.load(Ordering::SeqCst), 1);
+    assert_eq!(&rt; gate.calls.load(Ordering::SeqCst), 3);
+    assert!(&rt; err.bytes().is_empty());
+    Ok(())
+}
+
+// A window has 64 spans, and the byte behind the third window is one more.
+#[test]
+fn each_span_of_three_windows_is_hashed_once(rt: HostRuntime) -> Result<(), Fail> {
+    let alloc = rt.alloc();
+    let content = pattern(alloc, 3 * 1_048_576 + 1)?;
+    let mut shelf = GrowingShelf::new(content.as_slice(), 3 * 1_048_576 + 1, b"");
+    let mut out = MemorySink::new(alloc);
+    let mut err = MemorySink::new(alloc);
+    let names = [String::from_str(alloc, "aa")?];
+    let gate = TwoAtOnce::new();
+    let answer = run_sum(
+        &rt,
+        alloc,
+        &mut shelf,
+        &names,
+        &mut out,
+        &mut err,
+        &options(100, 0),
+        &gate,
+    );
+    assert_eq!(&rt; answer, Ok(tally(1, 0, 0)));
+    assert_eq!(&rt; gate.calls.load(Ordering::SeqCst), 3 * 64 + 1);
     assert!(&rt; err.bytes().is_empty());
     Ok(())
 }

@@ -8,6 +8,17 @@ use b3_core::{Mode, top};
 use std::process::Abort;
 use std::test::Fail;
 
+// The digests of 2^24 bytes of the pattern, and of one more, by another implementation, the installed b3sum.
+const DIGEST_OF_16_MIB: [u8; 32] = [
+    0x86, 0x9b, 0x12, 0x92, 0xc8, 0xbe, 0xd5, 0xbd, 0xb2, 0xe0, 0x07, 0x5e, 0x0c, 0x50, 0xcc, 0xf8,
+    0xb2, 0x4b, 0x33, 0xa0, 0xf8, 0x10, 0x71, 0xc8, 0x62, 0x06, 0xbd, 0x8f, 0xdb, 0x26, 0x95, 0x79,
+];
+
+const DIGEST_OF_16_MIB_AND_1: [u8; 32] = [
+    0x3a, 0x73, 0x4b, 0x24, 0xdf, 0x8a, 0x7d, 0x6c, 0x13, 0xf0, 0xa9, 0x80, 0xf0, 0x6b, 0x74, 0xc9,
+    0xff, 0xe3, 0xea, 0x32, 0x7d, 0xd5, 0xa2, 0x3a, 0x3a, 0x10, 0x85, 0x33, 0xc1, 0x86, 0x84, 0xff,
+];
+
 // Pushes the bytes, which are 2^level chunks, as a window.
 fn push(rt: &impl Abort, hasher: &mut Hasher, bytes: &[u8], level: u32)
     requires { length bytes.now ≤ 65536 }
@@ -29,6 +40,26 @@ fn a_window_of_one_chunk_stays_open(rt: HostRuntime) -> Result<(), Fail> {
     assert_digest(&rt, &hasher, &DIGEST_OF_1024, "and then no bytes");
     assert_eq!(rt; hasher.update(byte), Ok(()));
     assert_digest(&rt, &hasher, &DIGEST_OF_1025, "and then 1");
+    Ok(())
+}
+
+// The node of the window is the root; behind a byte more, the root is a parent over it and a chunk.
+#[test]
+fn a_window_of_16_mebibytes(rt: HostRuntime) -> Result<(), Fail> {
+    let all = pattern(rt.alloc(), 16_777_217)?;
+    let (window, byte) = all.split_at(16_777_216);
+    let node = top(&Mode::hash(), 0, window);
+    let mut hasher = Hasher::new(Mode::hash());
+    assert_eq!(rt; hasher.push_window(node, 14), Ok(()));
+    assert_eq!(rt; hasher.root(), node);
+    assert_digest(&rt, &hasher, &DIGEST_OF_16_MIB, "the window");
+    let len = hasher.len();
+    assert!(rt; len % 1024 == 0);
+    let last = hasher.finish_with(top(&Mode::hash(), 16_384, byte));
+    assert_digest_of(&rt, last, &DIGEST_OF_16_MIB_AND_1, 1);
+    assert_eq!(rt; hasher.update(byte), Ok(()));
+    assert_digest(&rt, &hasher, &DIGEST_OF_16_MIB_AND_1, "and then 1");
+    assert_eq!(rt; crate::hash(&all), DIGEST_OF_16_MIB_AND_1);
     Ok(())
 }
 
