@@ -114,6 +114,19 @@ fn nothing_and_64_workers(rt: HostRuntime) -> Result<(), Fail> {
     Ok(())
 }
 
+// Workers who let one another go on leave no span to the sweep, over one span and over two.
+#[test]
+fn nothing_swept(rt: HostRuntime) -> Result<(), Fail> {
+    let input = pattern(rt.alloc(), 32 * 1024)?;
+    for (len, workers) in [(0usize, 64u32), (32 * 1024, 2)] {
+        let plan = Plan::new(rt.alloc(), &input[..len], Mode::hash(), 16)?;
+        let report = hash_parallel(&rt, rt.alloc(), &plan, workers, &Yielding)?;
+        assert_eq!(&rt; report.swept, 0);
+        assert!(&rt; report.root.kept());
+    }
+    Ok(())
+}
+
 #[test]
 fn two_at_once(rt: HostRuntime) -> Result<(), Fail> {
     let input = pattern(rt.alloc(), 32 * 1024)?;
