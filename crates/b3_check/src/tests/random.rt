@@ -6,7 +6,7 @@ ghost use Rattle.b3_check.specs.Options.{CanCheck, CanRun};
 
 use crate::tests::KEY;
 use crate::tests::plain_lines::{plain_line, tagged_line};
-use crate::tests::recording::{File, PieceSink, RecordedFiles, content_of};
+use crate::tests::recording::{Answer, File, PieceSink, RecordedFiles, State, content_of};
 use crate::tests::report::{Report, check_report, sum_report};
 use crate::{CheckOptions, Form, KeyChoice, RunFault, SumOptions, Tally, run_check, run_sum};
 use b3_board::OpenGate;
@@ -267,8 +267,21 @@ struct Seen {
     ok: u64,
     failed: u64,
     lists: u64,
+    // the names that were begun and could not be read to their end
+    broken: u64,
     faults: Vec<RunFault>,
     complaints: String,
+}
+
+// How many names were begun and could not be read to their end.
+fn broken_of(answers: &[Answer<'_>]) -> u64 {
+    let mut broken = 0u64;
+    for answer in answers {
+        if answer.reads > 0 && answer.state == State::Failed {
+            broken = broken.saturating_add(1);
+        }
+    }
+    broken
 }
 
 impl Seen {
@@ -277,12 +290,19 @@ impl Seen {
             ok: 0,
             failed: 0,
             lists: 0,
+            broken: 0,
             faults: Vec::new(alloc),
             complaints: String::new(alloc),
         }
     }
 
-    fn add(&mut self, answer: Result<Tally, RunFault>, report: &Report<'_>) -> Result<(), Fail> {
+    fn add(
+        &mut self,
+        answer: Result<Tally, RunFault>,
+        report: &Report<'_>,
+        answers: &[Answer<'_>],
+    ) -> Result<(), Fail> {
+        self.broken = self.broken.saturating_add(broken_of(answers));
         match answer {
             Ok(tally) => {
                 self.ok = self.ok.saturating_add(tally.ok);
@@ -375,7 +395,7 @@ fn random_sums(rt: HostRuntime) -> Result<(), Fail> {
         let answers = shelf.answers.as_slice();
         let report = sum_report(&rt, alloc, &options, names.as_slice(), answers)?;
         compare(&rt, seed, answer, &report, &out, &err);
-        seen.add(answer, &report)?;
+        seen.add(answer, &report, answers)?;
     }
     let faults = [
         RunFault::ReadFault,
@@ -384,7 +404,7 @@ fn random_sums(rt: HostRuntime) -> Result<(), Fail> {
         RunFault::EndlessInput,
     ];
     seen.has_each(&rt, &faults, &[": bad name\n", ": cannot read\n"]);
-    assert!(&rt; seen.ok > 100 && seen.failed > 100);
+    assert!(&rt; seen.ok > 100 && seen.failed > 100 && seen.broken > 0);
     Ok(())
 }
 
@@ -420,10 +440,10 @@ fn random_checks(rt: HostRuntime) -> Result<(), Fail> {
         let answers = shelf.answers.as_slice();
         let report = check_report(&rt, alloc, &options, lists.as_slice(), answers)?;
         compare(&rt, seed, answer, &report, &out, &err);
-        seen.add(answer, &report)?;
+        seen.add(answer, &report, answers)?;
     }
     let faults = [RunFault::WriteFault, RunFault::EndlessInput];
     seen.has_each(&rt, &faults, &REASONS);
-    assert!(&rt; seen.ok > 100 && seen.failed > 100 && seen.lists > 10);
+    assert!(&rt; seen.ok > 100 && seen.failed > 100 && seen.lists > 10 && seen.broken > 0);
     Ok(())
 }

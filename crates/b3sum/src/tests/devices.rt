@@ -82,8 +82,10 @@ fn a_folder_is_no_file(rt: HostRuntime) {
 
 #[test]
 fn an_interrupted_read_is_made_again(rt: HostRuntime) {
-    let mut shelf = FileShelf::new(&rt, Interrupted::new(b"four".as_slice()));
     let mut room = [0; 8];
+    let first = Interrupted::new(b"four".as_slice()).read(&mut room);
+    assert!(rt; first.is_err_and(|error| error.kind() == ErrorKind::Interrupted));
+    let mut shelf = FileShelf::new(&rt, Interrupted::new(b"four".as_slice()));
     assert_eq!(rt; shelf.begin("-"), Ok(()));
     assert_eq!(rt; shelf.read(&mut room), Ok(4));
     assert_eq!(rt; room[..4], b"four"[..]);
@@ -102,6 +104,8 @@ fn a_read_that_is_always_interrupted_fails(rt: HostRuntime) {
 #[test]
 fn an_interrupted_write_is_made_again(rt: HostRuntime) {
     let mut room = [0; 8];
+    let first = Interrupted::new(room.as_mut_slice()).write(b"four");
+    assert!(rt; first.is_err_and(|error| error.kind() == ErrorKind::Interrupted));
     let mut sink = OutputSink::new(Interrupted::new(room.as_mut_slice()));
     assert_eq!(rt; sink.write(b"four"), Ok(4));
     assert_eq!(rt; sink.write(b"more"), Ok(4));
