@@ -81,6 +81,16 @@ fn a_folder_is_no_file(rt: HostRuntime) {
 }
 
 #[test]
+fn what_is_no_plain_file_may_wait(rt: HostRuntime) {
+    let shelf = FileShelf::new(&rt, b"".as_slice());
+    assert!(rt; shelf.may_wait("-"));
+    assert!(rt; shelf.may_wait("/"));
+    assert!(rt; shelf.may_wait("/dev/null"));
+    assert!(rt; shelf.may_wait("a file that is not there"));
+    assert!(rt; !shelf.may_wait("/proc/self/exe"));
+}
+
+#[test]
 fn an_interrupted_read_is_made_again(rt: HostRuntime) {
     let mut room = [0; 8];
     let first = Interrupted::new(b"four".as_slice()).read(&mut room);
