@@ -9,10 +9,10 @@ use crate::shelf::{CannotRead, Shelf};
 use std::alloc::{AllocError, Global};
 
 /// A window has 2^WINDOW_LEVEL chunks.
-pub const WINDOW_LEVEL: u32 = 10;
+pub const WINDOW_LEVEL: u32 = 11;
 
 /// How many bytes a window has.
-pub const WINDOW_LEN: usize = 1 << 20;
+pub const WINDOW_LEN: usize = 1 << 21;
 
 /// Memory for a window and a read behind it, filled from its front. Behind what is filled stand bytes of
 /// earlier windows; what was never read into is not touched.

@@ -109,10 +109,10 @@ fn assert_read_meanwhile<R: Abort + Threads + Wait + Sync>(
     Ok(())
 }
 
-// A window takes 16 reads, and the one that tells is the 17th.
+// A window takes 32 reads, and the one that tells is the 33rd.
 #[test]
 fn the_next_window_is_read_meanwhile(rt: HostRuntime) -> Result<(), Fail> {
-    assert_read_meanwhile(&rt, rt.alloc(), 1_500_000, 18)
+    assert_read_meanwhile(&rt, rt.alloc(), 3_000_000, 34)
 }
 
 // An empty file takes one read.

@@ -17,34 +17,6 @@ use std::thread::Threads;
 // last read behind it.
 const ONE: [(u64, &str); 6] = [
     (
-        1_048_575,
-        "f32b849d19684c18c138cf13e29dbadc776f4bc2a56b477680ef546b39ac3f71",
-    ),
-    (
-        1_048_576,
-        "74cb441fd087764ca9c3694da742ebe30cbeb3060a17009ca81825c7a8d10343",
-    ),
-    (
-        1_048_577,
-        "2f053cd7472cf0cd2f9adaf45c1180255b91b9a865404a63671a0ee5f792ed33",
-    ),
-    (
-        1_114_111,
-        "454bf148dbf3bbfb3452dcc0a104c0f641ebf1780dfd020122412e01a53ede96",
-    ),
-    (
-        1_114_112,
-        "302ff6fcbd6db15ac7ad32fe2b603d42ebf024eab1e44a4b028c69a00d6c1801",
-    ),
-    (
-        1_114_113,
-        "4dd51e1d2a9f52a54eb328bcb8b8b5b2f8eb618d0eaae6e1f1817271e51df8b6",
-    ),
-];
-
-// The same around two windows, and around three.
-const TWO: [(u64, &str); 3] = [
-    (
         2_097_151,
         "85c773abdd6559518e897595101d8ee4cb05da0949dfbb63c0b1b9cd4d0dd0a3",
     ),
@@ -56,23 +28,51 @@ const TWO: [(u64, &str); 3] = [
         2_097_153,
         "52dc212cb4cc61cb94d25bd7b1d47b256e4c3a6d68956df50c235c37a2aeacd7",
     ),
+    (
+        2_162_687,
+        "e1118958eb9ee6aab1bfacc800095f8c4921ff8c41651861b4ebb92e0d05f1c4",
+    ),
+    (
+        2_162_688,
+        "1cdfbaf9bc16e1bb030efb61a45194cba3b41dd9d63275b5f1214749498133ea",
+    ),
+    (
+        2_162_689,
+        "b6f26cb51ef4b25393822bdad49d8d64feb7ca7d1d9f79b2ca60b3a15a4d92b1",
+    ),
+];
+
+// The same around two windows, and around three.
+const TWO: [(u64, &str); 3] = [
+    (
+        4_194_303,
+        "6ee7f30ae33570aae744290e3f678050511e72f37e594d7620a9191c7d353dd9",
+    ),
+    (
+        4_194_304,
+        "4e94e6f582581a0f3855f3ce504b153e951e65036fe9e2f010b7e25473c54f98",
+    ),
+    (
+        4_194_305,
+        "0460893a0170917e0d568bb27c0287984d4f7e9d59eafb95e6fb3c01ec611eab",
+    ),
 ];
 
 const THREE: [(u64, &str); 3] = [
     (
-        3_145_727,
-        "4e1b42bb1c3ce9404dc03c087a533eafa7b948ed328cb6ac23eed1aeb63fc6a7",
+        6_291_455,
+        "82c64067b950b8d5a7a1f8bfa379125c0a6ba08bf0c21fc6ea676cc050588fce",
     ),
     (THREE_LEN, THREE_WINDOWS),
     (
-        3_145_729,
-        "fd984eaa20053d346cc7c79a175338f91556e68b871d877b23568a4587d9875b",
+        6_291_457,
+        "03257e11baab468ebb5b5131dbbf8d50568eed1cf40bb2180c1ae1c552fed2fd",
     ),
 ];
 
-const THREE_LEN: u64 = 3_145_728;
+const THREE_LEN: u64 = 6_291_456;
 
-const THREE_WINDOWS: &str = "c9e03344ea01f416e5fd2c4aa87b32f2b13e731d034be31898de3ce251926b1c";
+const THREE_WINDOWS: &str = "60cd1e4e80a3f746015c4453978d0a7f901e0764b2931bbc9c44ab7b18fc7684";
 
 // Sums one name of this shelf, by at most so many reads.
 fn assert_sum<R: Abort + Threads + Wait + Sync, S: Shelf + Send>(
@@ -159,7 +159,7 @@ fn assert_by_bytes<R: Abort + Threads + Wait + Sync>(
     for (length, digest) in files {
         let content = pattern(alloc, *length)?;
         let mut shelf = OneByteShelf::new(content.as_slice());
-        assert_sum(rt, alloc, &mut shelf, 4_000_000, *digest)?;
+        assert_sum(rt, alloc, &mut shelf, 8_000_000, *digest)?;
     }
     Ok(())
 }
@@ -189,7 +189,7 @@ fn assert_by_pieces<R: Abort + Threads + Wait + Sync>(
         let content = pattern(alloc, *length)?;
         for most in [40_000, 65_535] {
             let mut shelf = FailingShelf::of_pieces(content.as_slice(), most, u64::MAX);
-            assert_sum(rt, alloc, &mut shelf, 100, *digest)?;
+            assert_sum(rt, alloc, &mut shelf, 200, *digest)?;
         }
     }
     Ok(())
@@ -210,7 +210,7 @@ fn pieces_across_the_ends_of_three_windows(rt: HostRuntime) -> Result<(), Fail> 
     assert_by_pieces(&rt, rt.alloc(), &THREE)
 }
 
-// Three windows take 48 reads, and one more that finds their end; one of these fails.
+// Three windows take 96 reads, and one more that finds their end; one of these fails.
 fn assert_unread<R: Abort + Threads + Wait + Sync>(
     rt: &R,
     alloc: Global,
@@ -222,7 +222,7 @@ fn assert_unread<R: Abort + Threads + Wait + Sync>(
         let mut shelf = FailingShelf::of_pieces(content.as_slice(), 65_536, reads);
         let mut out = MemorySink::new(alloc);
         let mut err = MemorySink::new(alloc);
-        let asked = options(49, 0);
+        let asked = options(97, 0);
         let answer = sum_one(rt, alloc, &mut shelf, "a", &mut out, &mut err, &asked);
         assert_eq!(rt; answer, Ok(tally(0, 1, 0)), "after {reads}");
         assert!(rt; out.bytes().is_empty(), "after {reads}");
@@ -233,36 +233,36 @@ fn assert_unread<R: Abort + Threads + Wait + Sync>(
 
 #[test]
 fn a_failure_at_each_read_of_the_first_window(rt: HostRuntime) -> Result<(), Fail> {
-    assert_unread(&rt, rt.alloc(), 0, 17)
+    assert_unread(&rt, rt.alloc(), 0, 33)
 }
 
 #[test]
 fn a_failure_at_each_read_of_the_second_window(rt: HostRuntime) -> Result<(), Fail> {
-    assert_unread(&rt, rt.alloc(), 17, 33)
+    assert_unread(&rt, rt.alloc(), 33, 65)
 }
 
 #[test]
 fn a_failure_at_each_read_of_the_third_window(rt: HostRuntime) -> Result<(), Fail> {
-    assert_unread(&rt, rt.alloc(), 33, 41)
+    assert_unread(&rt, rt.alloc(), 65, 81)
 }
 
 #[test]
 fn a_failure_at_each_read_to_the_end_of_the_third_window(rt: HostRuntime) -> Result<(), Fail> {
-    assert_unread(&rt, rt.alloc(), 41, 49)
+    assert_unread(&rt, rt.alloc(), 81, 97)
 }
 
 // A name that could not be read in its second window is asked again.
 #[test]
 fn a_failure_leaves_nothing_behind(rt: HostRuntime) -> Result<(), Fail> {
     let content = pattern(rt.alloc(), THREE_LEN)?;
-    let mut shelf = FailingShelf::of_pieces(content.as_slice(), 65_536, 20);
+    let mut shelf = FailingShelf::of_pieces(content.as_slice(), 65_536, 40);
     let mut out = MemorySink::new(rt.alloc());
     let mut err = MemorySink::new(rt.alloc());
     let names = [
         String::from_str(rt.alloc(), "a")?,
         String::from_str(rt.alloc(), "b")?,
     ];
-    let asked = options(49, 0);
+    let asked = options(97, 0);
     let answer = run_sum(
         &rt,
         rt.alloc(),
@@ -288,19 +288,19 @@ fn three_windows_and_their_last_read(rt: HostRuntime) -> Result<(), Fail> {
     let content = pattern(rt.alloc(), THREE_LEN)?;
     for (turns, expected) in [
         (1, Err(RunFault::EndlessInput)),
-        (16, Err(RunFault::EndlessInput)),
-        (17, Err(RunFault::EndlessInput)),
-        (48, Err(RunFault::EndlessInput)),
-        (49, Ok(tally(1, 0, 0))),
+        (32, Err(RunFault::EndlessInput)),
+        (33, Err(RunFault::EndlessInput)),
+        (96, Err(RunFault::EndlessInput)),
+        (97, Ok(tally(1, 0, 0))),
     ] {
         let mut shelf = FailingShelf::of_pieces(content.as_slice(), 65_536, u64::MAX);
         let mut out = MemorySink::new(rt.alloc());
         let mut err = MemorySink::new(rt.alloc());
-        assert!(rt; 1 <= turns && turns <= 49);
+        assert!(rt; 1 <= turns && turns <= 97);
         let asked = options(turns, 0);
         let answer = sum_one(&rt, rt.alloc(), &mut shelf, "a", &mut out, &mut err, &asked);
         assert_eq!(rt; answer, expected, "{turns} reads");
-        assert_eq!(rt; out.bytes().is_empty(), turns < 49, "{turns} reads");
+        assert_eq!(rt; out.bytes().is_empty(), turns < 97, "{turns} reads");
         assert!(rt; err.bytes().is_empty());
     }
     Ok(())

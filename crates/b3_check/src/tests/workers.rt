@@ -192,12 +192,12 @@ fn two_at_once(rt: HostRuntime) -> Result<(), Fail> {
     Ok(())
 }
 
-// A window has 64 spans, and the byte behind the third window is one more.
+// A window has 128 spans, and the byte behind the third window is one more.
 #[test]
 fn each_span_of_three_windows_is_hashed_once(rt: HostRuntime) -> Result<(), Fail> {
     let alloc = rt.alloc();
-    let content = pattern(alloc, 3 * 1_048_576 + 1)?;
-    let mut shelf = GrowingShelf::new(content.as_slice(), 3 * 1_048_576 + 1, b"");
+    let content = pattern(alloc, 3 * 2_097_152 + 1)?;
+    let mut shelf = GrowingShelf::new(content.as_slice(), 3 * 2_097_152 + 1, b"");
     let mut out = MemorySink::new(alloc);
     let mut err = MemorySink::new(alloc);
     let names = [String::from_str(alloc, "aa")?];
@@ -213,7 +213,7 @@ fn each_span_of_three_windows_is_hashed_once(rt: HostRuntime) -> Result<(), Fail
         &gate,
     );
     assert_eq!(&rt; answer, Ok(tally(1, 0, 0)));
-    assert_eq!(&rt; gate.calls.load(Ordering::SeqCst), 3 * 64 + 1);
+    assert_eq!(&rt; gate.calls.load(Ordering::SeqCst), 3 * 128 + 1);
     assert!(&rt; err.bytes().is_empty());
     Ok(())
 }

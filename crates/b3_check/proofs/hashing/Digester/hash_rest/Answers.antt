@@ -9,7 +9,7 @@ use Rattle.b3_hash.proofs.Standing.{length-StandsFor}
 use Rattle.b3_check.specs.Reading.{IsFaultOfRest}
 use Rattle.b3_check.specs.Windows.{content_of, failed_reads, filled_bytes}
 use Rattle.b3_check.specs.Scripts.Kind.{Hashed}
-use Rattle.b3_check.specs.declared.buffer.TheConstants.{WINDOW_LEN}
+use Rattle.b3_check.specs.declared.buffer.TheConstants.{WINDOW_LEN, WINDOW_LEVEL}
 use Rattle.b3_check.specs.declared.window.Found.TheVariants.{Failed, Last, More}
 use Rattle.b3_check.proofs.ReadLemmas.{later_fault}
 use Rattle.b3_check.proofs.WindowLemmas.{More-not-Failed, append-window, is-Last, length-filled_bytes}
@@ -109,7 +109,7 @@ returns-clause-whole g c =
     ap (λ n. n / 1024) (c.len.ensures.stands_for before stands) in
     let last_is : c.in_ok-last.last ≡ top (mode_of hasher) (length before / 1024) filled =
     c.in_ok-last.ensures.node ∙ (λ i. top (sym held.mode i) (number i) filled) in
-    let node = c.finish_with.ensures 10 before filled stands (omega arith)
+    let node = c.finish_with.ensures WINDOW_LEVEL before filled stands (omega arith)
     (ap (λ n. n % WINDOW_LEN) len ∙ held.aligned alive)
     (omega (arith, held.last is_last, length-filled_bytes c.windows.self.current))
     (λ positive.
