@@ -6,8 +6,9 @@
 # `make faults` runs it against full devices, closed streams, broken lists, odd names and files that change.
 # `make refused` refuses each growth of memory in turn.
 # `make soak` runs it for two minutes on random trees and lists, with outputs, memory and descriptors that fail it.
-# `make bench` times it and the installed b3sum, the code on lanes beside the word code, and runs of workers.
-# `make audit` compares docs/AUDIT.md with the files that it names; `make cheat EDIT=crates/NAME/must-fail/WRONG.edit`
+# `make bench` times it and the installed b3sum, the code on lanes beside the word code, and runs of workers, and writes
+# the tables of README.md and docs/BENCH.md and docs/bench.svg. It ends with 1 where a row is above what is wanted.
+# `make audit` compares docs/AUDIT.md with the files that it names and should name; `make cheat EDIT=crates/NAME/must-fail/WRONG.edit`
 # tries one wrong body, which the prover must refuse.
 
 PREFIX = /usr/local
@@ -53,8 +54,8 @@ soak: b3sum
 	tools/soak
 
 bench: b3sum
-	tools/bench $(CPU)
 	tools/workers $(CPU)
+	tools/bench --write $(CPU)
 
 audit:
 	tools/audit
