@@ -3,7 +3,10 @@
 use crate::files::FileShelf;
 use crate::outputs::OutputSink;
 use b3_check::{CannotRead, Shelf, Sink, SinkFailed};
-use std::io::{self, ErrorKind, Read, Write};
+use std::alloc::{AllocError, Allocator};
+use std::fs::{Metadata, OpenFile, OpenOptions};
+use std::io::{self, ErrorKind, Read, Seek, SeekFrom, Write};
+use std::rt::Files;
 
 // Is interrupted before each call that it lets through.
 #[derive(Drop)]
@@ -70,6 +73,145 @@ fn the_input_is_begun_once_and_gives_its_bytes(rt: HostRuntime) {
     assert_eq!(rt; shelf.read(&mut room), Ok(0));
     assert_eq!(rt; shelf.begin("-"), Err(CannotRead));
     assert_eq!(rt; shelf.read(&mut room), Ok(0));
+}
+
+// A file without bytes.
+#[derive(Drop)]
+struct EmptyFile;
+
+impl Read for EmptyFile {
+    fn read(&mut self, _buf: &mut [u8]) -> io::Result<usize> {
+        Ok(0)
+    }
+}
+
+impl Write for EmptyFile {
+    fn write(&mut self, _buf: &[u8]) -> io::Result<usize> {
+        Ok(0)
+    }
+
+    fn flush(&mut self) -> io::Result<()> {
+        Ok(())
+    }
+}
+
+impl Seek for EmptyFile {
+    fn seek(&mut self, _pos: SeekFrom) -> io::Result<u64> {
+        Ok(0)
+    }
+}
+
+impl OpenFile for EmptyFile {
+    fn metadata(&self) -> io::Result<Metadata> {
+        unsupported()
+    }
+
+    fn set_len(&self, _size: u64) -> io::Result<()> {
+        unsupported()
+    }
+
+    fn sync_all(&self) -> io::Result<()> {
+        unsupported()
+    }
+
+    fn sync_data(&self) -> io::Result<()> {
+        unsupported()
+    }
+}
+
+fn unsupported<T>() -> io::Result<T> {
+    Err(io::Error::from(ErrorKind::Unsupported))
+}
+
+// A file system that has a file at one path alone.
+#[derive(Drop)]
+struct OnePath<'a> {
+    path: &'a str,
+}
+
+impl Files for OnePath<'_> {
+    type File = EmptyFile;
+
+    type Dir = EmptyFile;
+
+    fn open_file(&self, _how: &OpenOptions, path: &str) -> io::Result<EmptyFile> {
+        if path == self.path {
+            Ok(EmptyFile)
+        } else {
+            Err(io::Error::from(ErrorKind::NotFound))
+        }
+    }
+
+    fn open_dir(&self, _path: &str) -> io::Result<EmptyFile> {
+        unsupported()
+    }
+
+    fn metadata(&self, _path: &str) -> io::Result<Metadata> {
+        unsupported()
+    }
+
+    fn symlink_metadata(&self, _path: &str) -> io::Result<Metadata> {
+        unsupported()
+    }
+
+    fn copy(&self, _from: &str, _to: &str) -> io::Result<u64> {
+        unsupported()
+    }
+
+    fn rename(&self, _from: &str, _to: &str) -> io::Result<()> {
+        unsupported()
+    }
+
+    fn remove_file(&self, _path: &str) -> io::Result<()> {
+        unsupported()
+    }
+
+    fn create_dir(&self, _path: &str) -> io::Result<()> {
+        unsupported()
+    }
+
+    fn remove_dir(&self, _path: &str) -> io::Result<()> {
+        unsupported()
+    }
+
+    fn remove_dir_all<B: Allocator>(&self, _alloc: B, _path: &str) -> io::Result<()> {
+        unsupported()
+    }
+}
+
+// The file that is opened is the one that is named, to the character.
+#[test]
+fn the_named_file_is_opened(rt: HostRuntime) -> Result<(), AllocError> {
+    let mut long = String::new(rt.alloc());
+    for _ in 0..10_000usize {
+        long.push_str("/a")?;
+    }
+    for path in [
+        "a",
+        " a",
+        "a ",
+        " a ",
+        "\ta\n",
+        "a\r",
+        "a/",
+        "./a",
+        "a//b",
+        "a/../b",
+        "./-",
+        "--",
+        "-a",
+        "--check",
+        "\u{e9}",
+        "a\\nb",
+        " ",
+        long.as_str(),
+    ] {
+        let files = OnePath { path };
+        let mut shelf = FileShelf::new(&files, b"".as_slice());
+        assert_eq!(&rt; shelf.begin(path), Ok(()), "{path}");
+        assert_eq!(&rt; shelf.begin("another"), Err(CannotRead), "{path}");
+    }
+    Ok(())
 }
 
 #[test]

@@ -4,7 +4,7 @@ use crate::stop::Stop;
 use crate::task::{Task, settle};
 use crate::usage::Usage;
 use crate::words::Words;
-use b3_check::MAX_OUTPUT_LEN;
+use b3_check::{MAX_OUTPUT_LEN, MAX_WORKERS};
 use std::alloc::{AllocError, Global};
 use std::process::Abort;
 
@@ -174,14 +174,38 @@ fn settling_words_takes_no_memory(rt: HostRuntime) {
     );
 }
 
+// The words are not taken, and this is the text.
+fn assert_said(rt: &impl Abort, alloc: Global, words: &[&str], said: &str) {
+    match read(alloc, words) {
+        Err(Stop::Refused(text)) => {
+            assert_eq!(rt; text.as_str(), said);
+        }
+        _ => assert!(rt; false, "the words are taken"),
+    }
+}
+
+// What is not known is named, and nothing is guessed from its letters.
+#[test]
+fn words_that_are_not_known(rt: HostRuntime) {
+    let said = "error: unexpected argument '-1' found\n\nFor more information, try '--help'.\n";
+    assert_said(&rt, rt.alloc(), &["--seek", "-1"], said);
+    let said = "error: unexpected argument '--zero' found\n\nFor more information, try '--help'.\n";
+    assert_said(&rt, rt.alloc(), &["--zero", "a"], said);
+}
+
 #[test]
 fn help_and_version(rt: HostRuntime) -> Result<(), AllocError> {
     let range = format!(in rt.alloc(); "0 to {MAX_OUTPUT_LEN}")?;
+    let threads = format!(in rt.alloc(); "at most {MAX_WORKERS}")?;
     match read(rt.alloc(), &["--help"]) {
         Err(Stop::Asked(text)) => {
             assert!(rt;
                 text.contains(range.as_str()),
                 "the help has no range of lengths"
+            );
+            assert!(rt;
+                text.contains(threads.as_str()),
+                "the help has no greatest number of threads"
             );
             for word in [
                 "Usage: b3sum [OPTIONS] [FILE]...",
