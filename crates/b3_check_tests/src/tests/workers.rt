@@ -12,7 +12,7 @@ use b3_lines::write_line;
 use std::alloc::Global;
 use std::process::Abort;
 use std::sync::Wait;
-use std::sync::atomic::{AtomicU64, Ordering};
+use std::sync::atomic::{AtomicBool, AtomicU64, Ordering};
 use std::test::Fail;
 use std::thread;
 use std::thread::Threads;
@@ -152,6 +152,78 @@ fn a_hundred_files_by_64_workers(rt: HostRuntime) -> Result<(), Fail> {
 #[test]
 fn a_hundred_files_behind_an_open_gate(rt: HostRuntime) -> Result<(), Fail> {
     assert_runs(&rt, rt.alloc(), 4, &OpenGate)
+}
+
+// Waits until so many different workers have come, for at most a million turns.
+#[derive(Drop)]
+struct AllAtOnce {
+    wanted: u32,
+    workers: AtomicU64,
+    is_missed: AtomicBool,
+}
+
+impl AllAtOnce {
+    fn new(wanted: u32) -> AllAtOnce {
+        AllAtOnce {
+            wanted,
+            workers: AtomicU64::new(0),
+            is_missed: AtomicBool::new(false),
+        }
+    }
+
+    fn have_come(&self) -> bool {
+        self.workers.load(Ordering::SeqCst).count_ones() >= self.wanted
+    }
+}
+
+impl Gate for AllAtOnce {
+    fn pass(&self, worker: usize, _span: usize) {
+        self.workers.fetch_or(1 << (worker % 64), Ordering::SeqCst);
+        for _ in 0..1_000_000u64 {
+            if self.have_come() || self.is_missed.load(Ordering::SeqCst) {
+                return;
+            }
+            thread::yield_now();
+        }
+        self.is_missed.store(true, Ordering::SeqCst);
+    }
+}
+
+// As many workers hash at the same time as the options say, by either engine.
+#[test]
+fn all_workers_at_once(rt: HostRuntime) -> Result<(), Fail> {
+    let alloc = rt.alloc();
+    let content = pattern(alloc, 1_048_576)?;
+    let line = write_line(alloc, &hash(content.as_slice()), "aa")?;
+    let (names, lists) = (
+        [String::from_str(alloc, "aa")?],
+        [String::from_str(alloc, "l")?],
+    );
+    for workers in [2u32, 3, 4, 64] {
+        let mut shelf = GrowingShelf::new(content.as_slice(), 1_048_576, line.as_slice());
+        let (mut out, mut err) = (MemorySink::new(alloc), MemorySink::new(alloc));
+        let mut asked = options(100, 0);
+        asked.workers = workers;
+        let gate = AllAtOnce::new(workers);
+        let answer = run_sum(
+            &rt, alloc, &mut shelf, &names, &mut out, &mut err, &asked, &gate,
+        );
+        assert_eq!(&rt; answer, Ok(tally(1, 0, 0)));
+        assert_eq!(&rt; out.bytes(), line.as_slice());
+        assert!(&rt; gate.have_come(), "{workers} workers");
+
+        let mut shelf = GrowingShelf::new(content.as_slice(), 1_048_576, line.as_slice());
+        let mut asked = check_options(false, 1_000);
+        asked.workers = workers;
+        let gate = AllAtOnce::new(workers);
+        let answer = run_check(
+            &rt, alloc, &mut shelf, &lists, &mut out, &mut err, &asked, &gate,
+        );
+        assert_eq!(&rt; answer, Ok(tally(1, 0, 0)));
+        assert!(&rt; gate.have_come(), "{workers} workers");
+        assert!(&rt; err.bytes().is_empty());
+    }
+    Ok(())
 }
 
 // Two of three spans are hashed at the same time, and each of them once.
