@@ -13,7 +13,7 @@ use Rattle.b3_core.specs.declared.tree.Span.{Span}
 use Rattle.b3_board.specs.declared.entries.Entry.{Entry}
 use Rattle.b3_board.specs.Entries.{at, fresh, nothing, has_chunk, kept_count, open_count, open_spans, pieces, is_kept, FitsState, Lawful}
 use Rattle.b3_board.specs.Plans.{IsCutting, IsRow, grain_span, grain_spans}
-use Rattle.b3_board.specs.Spans.{IsSubtreeSpan, has, part}
+use Rattle.b3_board.specs.Spans.{Known, IsSubtreeSpan, has, part}
 use Rattle.std.proofs.lemmas.Nat.{pow_pos, div-add-mod', mul-le}
 use Rattle.std.proofs.Math.Nat.{lt-div-mul-add, pow-le-pow_right}
 use Rattle.std.specs.Int.{IsPowerOfTwo, div_ceil}
@@ -90,10 +90,10 @@ module _ (n : ℕ) (spans : List Span) (cutting : IsCutting n spans) where
         | inr x ↦ ap (λ (e : Entry). is_kept e.state) x
       ]
 
-pub lawful_new : (input : List ℕ) (mode : Mode) (first : ℕ) (spans : List Span)
-    → IsCutting (chunks (length input)) spans → Lawful input mode first (map fresh spans)
+pub lawful_new : (input : Known) (mode : Mode) (first : ℕ) (spans : List Span)
+    → IsCutting (chunks input.len) spans → Lawful input mode first (map fresh spans)
 lawful_new input mode first spans cutting =
-    let n = chunks (length input) in
+    let n = chunks input.len in
     record {
       sound = record {
         in_order = λ i j lt short.

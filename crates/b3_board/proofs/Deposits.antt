@@ -28,7 +28,8 @@ not_open es s none there =
     none i state_is span_is
 
 -- a span of the board that was closed is deposited
-pub deposited : (input : List ℕ) (mode : Mode) (first : ℕ) (es fs : List Entry) (place : ℕ) (s : Span) (book : ℕ)
+pub deposited : {Input : Type 0} (input : Input) (mode : Mode) (first : ℕ) (es fs : List Entry) (place : ℕ) (s : Span)
+    (book : ℕ)
     → (at es place).state ≡ Open → (at es place).span ≡ s → map open_span fs ≡ set (map open_span es) place None
     → ((k : ℕ) → sum_by (kept_chunk k) fs
     ≡ sum_by (kept_chunk k) es + has k (at es place).span.first (at es place).span.count)

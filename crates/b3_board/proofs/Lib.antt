@@ -1,5 +1,9 @@
 -- The bytes of a span, and the node of a subtree from those of its two children.
 pub mod SpanBytes
+-- The nodes of bytes that an input may have: siblings join, and the whole has the root.
+pub mod KnownNodes
+-- The bytes of a span of a region of a source.
+pub mod RegionBytes
 -- A search by halves among ascending entries.
 pub mod Finding
 -- The sibling of a piece among the pieces.

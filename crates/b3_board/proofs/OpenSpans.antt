@@ -15,7 +15,7 @@ use Rattle.b3_board.specs.declared.entries.State.{State}
 use Rattle.b3_board.specs.declared.entries.State.TheVariants.{Open, Kept, Joined}
 use Rattle.b3_board.specs.Entries.{at, nothing, has_chunk, kept_count, open_count, if_kept, if_open, open_span, open_spans, some_open, is_kept, is_joined, FitsState, Lawful, NoneOpen}
 use Rattle.b3_board.specs.Pictures.{LosesSpan}
-use Rattle.b3_board.specs.Spans.{has, part}
+use Rattle.b3_board.specs.Spans.{IsRootOf, Known, has, part}
 use Rattle.b3_board.specs.declared.entries.KeptNode.{KeptNode}
 use Rattle.b3_board.proofs.Partners.{kept_short, kept_some, what_is_kept}
 use Rattle.b3_core.proofs.Siblings.{IsSubtree-had}
@@ -70,9 +70,9 @@ kept_else (Kept n) x closed there = refl
 abbrev Piece : List Entry → ℕ → ℕ → ℕ → Type 0
 Piece es a c i = (is_kept (at es i).state ≡ true) × ((at es i).span.first ≡ a) × ((at es i).span.count ≡ c)
 
-module _ (input : List ℕ) (mode : Mode) (first : ℕ) (es : List Entry) (lawful : Lawful input mode first es) where
+module _ (input : Known) (mode : Mode) (first : ℕ) (es : List Entry) (lawful : Lawful input mode first es) where
   abbrev n : ℕ
-  n = chunks (length input)
+  n = chunks input.len
 
   abbrev P : ℕ → ℕ → Type 0
   P a c = (i : ℕ) × Piece es a c i
@@ -145,16 +145,19 @@ module _ (input : List ℕ) (mode : Mode) (first : ℕ) (es : List Entry) (lawfu
       none_at i zero_open
 
   -- and its node is the top
-  pub root_top : (x : KeptNode) → (at es 0).state ≡ Kept x → (at es 0).span.count ≡ n → x.node ≡ top mode first input
+  pub root_top : (x : KeptNode) → (at es 0).state ≡ Kept x → (at es 0).span.count ≡ n
+      → IsRootOf input mode first x.node
   root_top x is counts =
       let kept : is_kept (at es 0).state ≡ true = ap is_kept is in
       let at_zero = InGrid-from_IsSubtree n (omega arith) (tree_at 0 kept) in
       let ends = at_zero.ends in
       let begins : (at es 0).span.first ≡ 0 = omega arith in
       let same : first + (at es 0).span.first ≡ first = omega arith in
-      let all : part input (at es 0).span.first (at es 0).span.count ≡ input =
-      (λ i. part input (begins i) (counts i)) ∙ take_all (1024 * n) input (omega arith) in
-      (lawful.sound.tops 0 x is).0 ∙ (λ i. top mode (same i) (all i))
+      let node = (lawful.sound.tops 0 x is).0 in
+      let all : part node.bytes (at es 0).span.first (at es 0).span.count ≡ node.bytes =
+      (λ i. part node.bytes (begins i) (counts i))
+      ∙ take_all (1024 * n) node.bytes (omega (arith, node.may_be.len_is)) in
+      record { bytes = node.bytes; may_be = node.may_be; is_top = node.is_top ∙ (λ i. top mode (same i) (all i)) }
 
   pub open_inside : (i : ℕ) → (at es i).state ≡ Open
       → ((at es i).span.first + (at es i).span.count ≤ n) × (0 < (at es i).span.count)

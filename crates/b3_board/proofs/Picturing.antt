@@ -1,7 +1,7 @@
 -- The picture of a lawful board is lawful.
 use Rattle.std.proofs.Common.{inl, inr, ◌≡◌, ℕ, ◌+◌, ◌<◌, Bool, true, false, List, ◌++◌, length, map, Option, Some, None, arith, refl, sym, subst, ap, ◌∙◌}
 use Rattle.std.proofs.lemmas.Bool.{cases_lt, eq-eqb, eqb-true, false≢true}
-use Rattle.std.proofs.lemmas.List.Elements.{All-append}
+use Rattle.std.proofs.lemmas.List.Elements.{All-append, All-weaker}
 use Rattle.std.proofs.lemmas.List.Sums.{sum_by-append}
 use Rattle.std.specs.List.{All, Contains, filter_map, sum_by}
 use Rattle.std.specs.Option.{option_map}
@@ -11,13 +11,14 @@ use Rattle.b3_core.specs.declared.modes.Mode.{Mode}
 use Rattle.b3_core.specs.declared.nodes.Node.{Node}
 use Rattle.b3_core.specs.declared.tree.Span.{Span}
 use Rattle.b3_board.specs.Entries.{FitsState, Lawful, at, has_chunk, if_kept, if_open, is_joined, is_kept, kept_chunk, kept_count, nothing, open_span, open_spans, piece_of, pieces, some_open, some_piece}
-use Rattle.b3_board.specs.Pictures.{IsLawful, Picture, Piece}
-use Rattle.b3_board.specs.Spans.{IsNodeOf, IsSubtreeSpan, has, times}
+use Rattle.b3_board.specs.Pictures.{IsLawful, IsLawfulOver, Picture, Piece}
+use Rattle.b3_board.specs.Spans.{IsNodeOf, IsSubtreeSpan, Known, has, in_memory, times, top_of}
 use Rattle.b3_board.specs.declared.entries.Entry.{Entry}
 use Rattle.b3_board.specs.declared.entries.KeptNode.{KeptNode}
 use Rattle.b3_board.specs.declared.entries.State.{State}
 use Rattle.b3_board.specs.declared.entries.State.TheVariants.{Open, Kept, Joined}
 use Rattle.b3_board.proofs.Filtered.{All-filter_map, map-filter_map, or_zero, place-from_Contains, sum_by-both, sum_by-filter_map}
+use Rattle.b3_board.proofs.KnownNodes.{IsNodeOf-in_memory}
 use Rattle.b3_board.proofs.Partners.{kept_some}
 use Rattle.b3_board.proofs.Steps.{has_none}
 
@@ -118,7 +119,7 @@ sum_kept g es =
     ∙ sum_by-filter_map g kept_span (λ e. if_kept e.state (g e.span)) (λ e. or_zero-kept g e.state e.span) es
 
 -- the picture of a board with these entries
-abbrev pub picture_of : List ℕ → Mode → ℕ → List Entry → ℕ → Picture
+abbrev pub picture_of : {Input : Type 0} → Input → Mode → ℕ → List Entry → ℕ → Picture Input
 picture_of input mode first es book = record {
   input = input;
   mode = mode;
@@ -132,9 +133,9 @@ pub times_kept : (k : ℕ) (es : List Entry)
     → times k (map (λ (p : Piece). p.span) (pieces es)) ≡ sum_by (kept_chunk k) es
 times_kept k es = sum_kept (λ (s : Span). has k s.first s.count) es
 
-module _ (input : List ℕ) (mode : Mode) (first : ℕ) (es : List Entry) (lawful : Lawful input mode first es) where
+module _ (input : Known) (mode : Mode) (first : ℕ) (es : List Entry) (lawful : Lawful input mode first es) where
   abbrev n : ℕ
-  n = chunks (length input)
+  n = chunks input.len
 
   subtree_open : (i : ℕ) (s : Span) → i < length es → open_span (at es i) ≡ Some s → IsSubtreeSpan n s
   subtree_open i s short is =
@@ -193,8 +194,9 @@ module _ (input : List ℕ) (mode : Mode) (first : ℕ) (es : List Entry) (lawfu
       ]
 
   -- the picture of lawful entries is lawful
-  pub lawful_picture : (book : ℕ) → sum_by kept_count es ≡ book → IsLawful (picture_of input mode first es book)
-  lawful_picture book booked = record {
+  pub lawful_over : {Input : Type 0} (shown : Input) (book : ℕ) → sum_by kept_count es ≡ book
+      → IsLawfulOver input (picture_of shown mode first es book)
+  lawful_over shown book booked = record {
     subtrees = subtrees;
     once = once;
     nodes = nodes;
@@ -202,3 +204,25 @@ module _ (input : List ℕ) (mode : Mode) (first : ℕ) (es : List Entry) (lawfu
     booked = sum_kept (λ (s : Span). s.count) es ∙ booked;
     whole = omega (arith, booked, sum_open (λ (s : Span). s.count) es, lawful.sound.all);
   }
+
+-- over an input in memory, the laws over what is known are to the letter the laws over its bytes
+pub IsLawfulOver-in_memory : (picture : Picture (List ℕ)) → IsLawfulOver (in_memory picture.input) picture
+    → IsLawful picture
+IsLawfulOver-in_memory picture laws = record {
+  subtrees = laws.subtrees;
+  once = laws.once;
+  nodes = All-weaker (λ (p : Piece). IsNodeOf (in_memory picture.input) picture.mode picture.first p.span p.node)
+      (λ (p : Piece). p.node ≡ top_of picture.input picture.mode picture.first p.span)
+      (λ p is. IsNodeOf-in_memory picture.input picture.mode picture.first p.span p.node is) picture.pieces laws.nodes;
+  apart = laws.apart;
+  booked = laws.booked;
+  whole = laws.whole;
+}
+
+pub lawful_picture : (input : List ℕ) (mode : Mode) (first : ℕ) (es : List Entry)
+    → Lawful (in_memory input) mode first es
+    → (book : ℕ) → sum_by kept_count es ≡ book
+    → IsLawful (picture_of input mode first es book)
+lawful_picture input mode first es lawful book booked =
+    IsLawfulOver-in_memory (picture_of input mode first es book)
+    (lawful_over (in_memory input) mode first es lawful input book booked)

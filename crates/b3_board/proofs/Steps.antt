@@ -14,8 +14,8 @@ use Rattle.b3_board.specs.declared.entries.Entry.{Entry}
 use Rattle.b3_board.specs.declared.entries.State.{State}
 use Rattle.b3_board.specs.declared.entries.State.TheVariants.{Open, Kept, Joined}
 use Rattle.b3_board.specs.Entries.{at, nothing, has_chunk, kept_chunk, kept_count, open_count, open_span, if_kept, if_open, some_open, is_kept, is_joined, AreChildEntries, IsInOrder, FitsState, KeepsTop, Sound, Lawful, Apart, ApartBut, IsJoined, joined, closed, widened, emptied, kept_node}
-use Rattle.b3_board.specs.Spans.{IsNodeOf, IsSubtreeSpan, has, top_of}
-use Rattle.b3_board.proofs.SpanBytes.{top-part}
+use Rattle.b3_board.specs.Spans.{IsNodeOf, IsSubtreeSpan, Known, has}
+use Rattle.b3_board.proofs.KnownNodes.{IsNodeOf-joined}
 use Rattle.b3_board.proofs.Partners.{what_is_kept}
 use Rattle.b3_core.proofs.Siblings.{Kids-from_AreChildren}
 
@@ -118,12 +118,12 @@ kept_is a x e = ap (λ (s : State). kept_or s a) e
 
 -- ---- two siblings joined
 
-module _ (input : List ℕ) (mode : Mode) (first : ℕ) (es : List Entry) (sound : Sound input mode first es)
+module _ (input : Known) (mode : Mode) (first : ℕ) (es : List Entry) (sound : Sound input mode first es)
     (l r : ℕ) (l_short : l < length es) (r_short : r < length es) (distinct : l ≢ r)
     (a b : KeptNode) (l_is : (at es l).state ≡ Kept a) (r_is : (at es r).state ≡ Kept b)
-    (kids : AreChildEntries (chunks (length input)) (at es l) (at es r)) where
+    (kids : AreChildEntries (chunks input.len) (at es l) (at es r)) where
   abbrev n : ℕ
-  n = chunks (length input)
+  n = chunks input.len
 
   abbrev node : Node
   node = parent_node mode a.chaining_value b.chaining_value
@@ -133,11 +133,6 @@ module _ (input : List ℕ) (mode : Mode) (first : ℕ) (es : List Entry) (sound
 
   abbrev wide : Entry
   wide = widened (at es l) (at es r) node
-
-  -- the chaining value of a piece is that of the top
-  chaining_is : (i : ℕ) (x : KeptNode) → (at es i).state ≡ Kept x
-      → x.chaining_value ≡ chaining (top_of input mode first (at es i).span)
-  chaining_is i x is = let top = sound.tops i x is in top.1 ∙ ap chaining top.0
 
   joined-first : (k : ℕ) → (at after k).span.first ≡ (at es k).span.first
   joined-first k =
@@ -215,10 +210,12 @@ module _ (input : List ℕ) (mode : Mode) (first : ℕ) (es : List Entry) (sound
 
   joined-tops : (k : ℕ) → KeepsTop input mode first (at after k).state (at after k).span
   joined-tops k =
-      let left = chaining_is l a l_is in
-      let right = chaining_is r b r_is in
-      let tops = top-part input mode first _ _ _ _ kids in
-      let here : node ≡ top_of input mode first wide.span = (λ i. parent_node mode (left i) (right i)) ∙ sym tops in
+      let (left, left_chaining) = sound.tops l a l_is in
+      let (right, right_chaining) = sound.tops r b r_is in
+      let parent : parent_node mode (chaining a.node) (chaining b.node) ≡ node =
+      λ i. parent_node mode (sym left_chaining i) (sym right_chaining i) in
+      let here : IsNodeOf input mode first wide.span node = subst (IsNodeOf input mode first wide.span) parent
+      (IsNodeOf-joined input mode first _ _ _ _ a.node b.node kids left right) in
       elim (look_two es l r k wide (emptied (at es r)) l_short r_short distinct) [
         | inl (same, is) ↦
             subst (λ (e : Entry). KeepsTop input mode first e.state e.span) (sym is)
@@ -262,12 +259,12 @@ module _ (input : List ℕ) (mode : Mode) (first : ℕ) (es : List Entry) (sound
 
 -- ---- an open span closed
 
-module _ (input : List ℕ) (mode : Mode) (first : ℕ) (es : List Entry) (lawful : Lawful input mode first es)
+module _ (input : Known) (mode : Mode) (first : ℕ) (es : List Entry) (lawful : Lawful input mode first es)
     (i : ℕ) (short : i < length es) (is_open_at : (at es i).state ≡ Open)
     (kept : KeptNode) (is_top : IsNodeOf input mode first (at es i).span kept.node)
     (is_chaining : kept.chaining_value ≡ chaining kept.node) where
   abbrev m : ℕ
-  m = chunks (length input)
+  m = chunks input.len
 
   abbrev sound1 : Sound input mode first es
   sound1 = lawful.sound
@@ -381,11 +378,11 @@ grown : (l r h : ℕ) → 0 < l → 0 < r → (h ≡ l) ⊎ (h ≡ r) → h < l 
 grown l r h some more (inl e) = omega arith
 grown l r h some more (inr e) = omega arith
 
-pub is_joined_well : (input : List ℕ) (mode : Mode) (first : ℕ) (es : List Entry) (here : ℕ) (fs : List Entry)
+pub is_joined_well : (input : Known) (mode : Mode) (first : ℕ) (es : List Entry) (here : ℕ) (fs : List Entry)
     (l r : ℕ) → l < length es → r < length es → l ≢ r
     → is_kept (at es l).state ≡ true → is_kept (at es r).state ≡ true
-    → AreChildEntries (chunks (length input)) (at es l) (at es r)
-    → Sound input mode first es → ApartBut (chunks (length input)) here es → (here ≡ l) ⊎ (here ≡ r)
+    → AreChildEntries (chunks input.len) (at es l) (at es r)
+    → Sound input mode first es → ApartBut (chunks input.len) here es → (here ≡ l) ⊎ (here ≡ r)
     → ((a b : KeptNode) → (at es l).state ≡ Kept a → (at es r).state ≡ Kept b
     → fs ≡ joined es l r (parent_node mode a.chaining_value b.chaining_value))
     → IsJoined input mode first es here fs l
@@ -393,7 +390,7 @@ is_joined_well input mode first es here fs l r l_short r_short distinct l_kept r
     let (a, a_is) = what_is_kept (at es l).state l_kept in
     let (b, b_is) = what_is_kept (at es r).state r_kept in
     let node = parent_node mode a.chaining_value b.chaining_value in
-    let kid = Kids-from_AreChildren (chunks (length input)) _ _ _ _ (omega arith) kids in
+    let kid = Kids-from_AreChildren (chunks input.len) _ _ _ _ (omega arith) kids in
     let P : List Entry → Type 0 = λ xs. IsJoined input mode first es here xs l in
     let wide = widened_is es l r node l_short in
     let counts : ((at es here).span.count ≡ (at es l).span.count) ⊎ ((at es here).span.count ≡ (at es r).span.count) =

@@ -8,7 +8,7 @@ use Rattle.b3_core.specs.declared.modes.Mode.{Mode}
 use Rattle.b3_core.specs.declared.nodes.Node.{Node}
 use Rattle.b3_core.specs.declared.tree.Span.{Span}
 use Rattle.b3_board.specs.Pictures.{Piece}
-use Rattle.b3_board.specs.Spans.{IsNodeOf, IsSubtreeSpan, has}
+use Rattle.b3_board.specs.Spans.{IsNodeOf, IsSubtreeSpan, Known, has, in_memory}
 use Rattle.b3_board.specs.declared.entries.Entry.{Entry}
 use Rattle.b3_board.specs.declared.entries.KeptNode.{KeptNode}
 use Rattle.b3_board.specs.declared.entries.State.{State}
@@ -90,8 +90,14 @@ pieces es = filter_map piece_of es
 abbrev pub kept_node : Node → KeptNode
 kept_node node = record { node = node; chaining_value = chaining node }
 
+-- what is done of a span: the node is that of the span, with its chaining value
+pub record KeepsNode (input : Known) (mode : Mode) (first : ℕ) (span : Span) (node : Node)
+    (chaining_value : List ℕ) : Type 0 where
+  pub node_is : IsNodeOf input mode first span node
+  pub chaining_is : chaining_value ≡ chaining node
+
 -- what is kept of a span is the top of the input's chunks in it, with its chaining value
-abbrev pub KeepsTop : List ℕ → Mode → ℕ → State → Span → Type 0
+abbrev pub KeepsTop : Known → Mode → ℕ → State → Span → Type 0
 KeepsTop input mode first state s = (kept : KeptNode) → state ≡ Kept kept
     → IsNodeOf input mode first s kept.node × (kept.chaining_value ≡ chaining kept.node)
 
@@ -100,13 +106,13 @@ abbrev pub FitsState : State → ℕ → Type 0
 FitsState state c = is_joined state ≡ nat_eq c 0
 
 -- all of a lawful board but that no two pieces are siblings
-pub record Sound (input : List ℕ) (mode : Mode) (first : ℕ) (es : List Entry) : Type 0 where
+pub record Sound (input : Known) (mode : Mode) (first : ℕ) (es : List Entry) : Type 0 where
   pub in_order : IsInOrder es
   pub fits : (i : ℕ) → FitsState (at es i).state (at es i).span.count
-  pub subtrees : (i : ℕ) → 0 < (at es i).span.count → IsSubtreeSpan (chunks (length input)) (at es i).span
-  pub once : (k : ℕ) → k < chunks (length input) → sum_by (has_chunk k) es ≡ 1
+  pub subtrees : (i : ℕ) → 0 < (at es i).span.count → IsSubtreeSpan (chunks input.len) (at es i).span
+  pub once : (k : ℕ) → k < chunks input.len → sum_by (has_chunk k) es ≡ 1
   pub tops : (i : ℕ) → KeepsTop input mode first (at es i).state (at es i).span
-  pub all : sum_by kept_count es + sum_by open_count es ≡ chunks (length input)
+  pub all : sum_by kept_count es + sum_by open_count es ≡ chunks input.len
 
 -- the entries are left and right child of one subtree
 abbrev pub AreChildEntries : ℕ → Entry → Entry → Type 0
@@ -123,9 +129,9 @@ Apart n es = (i j : ℕ) → is_kept (at es i).state ≡ true → is_kept (at es
     → ¬ AreChildEntries n (at es i) (at es j)
 
 -- the entries of a lawful board
-pub record Lawful (input : List ℕ) (mode : Mode) (first : ℕ) (es : List Entry) : Type 0 where
+pub record Lawful (input : Known) (mode : Mode) (first : ℕ) (es : List Entry) : Type 0 where
   pub sound : Sound input mode first es
-  pub apart : Apart (chunks (length input)) es
+  pub apart : Apart (chunks input.len) es
 
 -- the piece at the left with its right sibling's chunks and the node of both
 abbrev pub widened : Entry → Entry → Node → Entry
@@ -147,12 +153,12 @@ abbrev pub closed : List Entry → ℕ → KeptNode → List Entry
 closed es i kept = slice_set es i (record { span = (at es i).span; state = Kept kept })
 
 -- the piece at `here` and its sibling became the piece at `place`
-pub record IsJoined (input : List ℕ) (mode : Mode) (first : ℕ) (es : List Entry) (here : ℕ)
+pub record IsJoined (input : Known) (mode : Mode) (first : ℕ) (es : List Entry) (here : ℕ)
     (fs : List Entry) (place : ℕ) : Type 0 where
   pub inside : place < length fs
   pub kept : is_kept (at fs place).state ≡ true
   pub sound : Sound input mode first fs
-  pub apart : ApartBut (chunks (length input)) place fs
+  pub apart : ApartBut (chunks input.len) place fs
   pub same_chunks : (k : ℕ) → sum_by (kept_chunk k) fs ≡ sum_by (kept_chunk k) es
   pub same_count : sum_by kept_count fs ≡ sum_by kept_count es
   pub same_open : map open_span fs ≡ map open_span es
@@ -166,12 +172,17 @@ fresh s = record { span = s; state = Open }
 abbrev pub NoneOpen : List Entry → Type 0
 NoneOpen es = (i : ℕ) → open_span (at es i) ≡ None
 
--- what the fields of a board keep: they are of the named input, mode and first chunk, the entries are
--- lawful, and the chunks of the pieces add up to the book
+-- what a board keeps: the entries are lawful, and the chunks of the pieces add up to the book
+pub record KeepsEntries (input : Known) (mode : Mode) (first : ℕ) (es : List Entry) (book : ℕ) : Type 0 where
+  pub lawful : Lawful input mode first es
+  pub booked : sum_by kept_count es ≡ book
+
+-- what the fields of a board over an input in memory keep: they are of the named input, mode and first chunk, the
+-- entries are lawful, and the chunks of the pieces add up to the book
 pub record KeepsBoard (own_input : List ℕ) (own_mode : Mode) (own_first : ℕ)
     (input : List ℕ) (mode : Mode) (first : ℕ) (es : List Entry) (book : ℕ) : Type 0 where
   pub input_is : input ≡ own_input
   pub mode_is : mode ≡ own_mode
   pub first_is : first ≡ own_first
-  pub lawful : Lawful input mode first es
+  pub lawful : Lawful (in_memory input) mode first es
   pub booked : sum_by kept_count es ≡ book

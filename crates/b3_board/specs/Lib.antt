@@ -1,5 +1,6 @@
 pub mod Spans
 pub mod Plans
+pub mod Regions
 pub mod Faults
 pub mod Pictures
 pub mod Shares

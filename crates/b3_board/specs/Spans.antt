@@ -1,5 +1,5 @@
 -- Spans of the chunks of an input, and what of the input stands under them (BLAKE3 (2020), 2.1).
-use Rattle.std.specs.Prelude.{◌≡◌, ℕ, ◌+◌, ◌-◌, ◌*◌, min, List, take, drop, sum_by}
+use Rattle.std.specs.Prelude.{◌≡◌, ℕ, ◌+◌, ◌-◌, ◌*◌, min, List, length, take, drop, sum_by, Option, Some}
 use Rattle.b3_core.specs.Chunks.{chunk_len}
 use Rattle.b3_core.specs.Subtrees.{IsSubtree}
 use Rattle.b3_core.specs.Tree.{top}
@@ -31,6 +31,28 @@ part input a c = take (chunk_len * c) (drop (chunk_len * a) input)
 abbrev pub top_of : List ℕ → Mode → ℕ → Span → Node
 top_of input mode first span = top mode (first + span.first) (part input span.first span.count)
 
--- the node is that top
-abbrev pub IsNodeOf : List ℕ → Mode → ℕ → Span → Node → Type 0
-IsNodeOf input mode first span node = node ≡ top_of input mode first span
+-- what is known of an input before it is read: its bytes, where they are told, and their number
+pub record Known : Type 0 where
+  pub told : Option (List ℕ)
+  pub len : ℕ
+
+-- all of an input that lies in memory
+abbrev pub in_memory : List ℕ → Known
+in_memory bytes = record { told = Some bytes; len = length bytes }
+
+-- the input may have these bytes
+pub record MayBe (input : Known) (bytes : List ℕ) : Type 0 where
+  pub len_is : length bytes ≡ input.len
+  pub told_is : (all : List ℕ) → input.told ≡ Some all → bytes ≡ all
+
+-- the node is the top of the chunks in the span, of bytes that the input may have
+pub record IsNodeOf (input : Known) (mode : Mode) (first : ℕ) (span : Span) (node : Node) : Type 0 where
+  pub bytes : List ℕ
+  pub may_be : MayBe input bytes
+  pub is_top : node ≡ top_of bytes mode first span
+
+-- the node is the top of all the chunks, of bytes that the input may have
+pub record IsRootOf (input : Known) (mode : Mode) (first : ℕ) (node : Node) : Type 0 where
+  pub bytes : List ℕ
+  pub may_be : MayBe input bytes
+  pub is_top : node ≡ top mode first bytes

@@ -47,9 +47,10 @@ pub struct Board<'a, L: Planned> {
 
 impl<'a, L: Planned> Model for Board<'a, L> {
     ghost use Rattle.b3_board.specs.Entries.{KeepsBoard, open_spans, pieces};
+    ghost use Rattle.std.specs.Prelude.{ℕ, List};
     ghost use Rattle.b3_board.specs.Pictures.{Picture};
 
-    ghost Value = { Picture };
+    ghost Value = { Picture (List ℕ) };
 
     ghost view = { λ board. record {
       input = board.tree.input.now;

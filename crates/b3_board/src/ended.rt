@@ -3,6 +3,7 @@
 use crate::claims::Seat;
 use crate::planned::Planned;
 use crate::share::Share;
+use std::sync::ledger::Ledger;
 
 /// What a worker gives back.
 #[derive(Drop)]
@@ -15,7 +16,8 @@ pub struct Ended<L: Planned> {
 
 // What each worker of a run works with, and keeps for the run to join.
 #[derive(Drop)]
-pub(crate) struct Hand<L: Planned> {
+pub(crate) struct Hand<'r, L: Ledger> {
     pub(crate) seat: Seat,
     pub(crate) share: Share<L>,
+    pub(crate) room: &'r mut [u8],
 }

@@ -3,13 +3,14 @@
 ghost use Rattle.std.specs.Prelude.{◌≡◌, ◌≢◌, ℕ, ◌+◌, ◌<◌, ◌≤◌, ◌^◌, length, map, sum_by, IfNone, IfSome, IsSome, None, slice_set, true, ◌↔◌};
 ghost use Rattle.b3_core.specs.Nodes.{chaining};
 ghost use Rattle.b3_core.specs.Subtrees.{AreSiblings, IsSubtree};
-ghost use Rattle.b3_core.specs.Tree.{chunks, parent_node, top};
+ghost use Rattle.b3_core.specs.Tree.{chunks, parent_node};
 ghost use Rattle.b3_board.specs.Entries.{ApartBut, IsInOrder, IsJoined, Lawful, NoneOpen, Sound, at, is_kept, joined, kept_chunk, kept_count, open_count, open_span};
-ghost use Rattle.b3_board.specs.Spans.{IsNodeOf, has};
+ghost use Rattle.b3_board.specs.Spans.{IsNodeOf, IsRootOf, has, in_memory};
 ghost use Rattle.b3_board.specs.declared.entries.KeptNode.{KeptNode};
 ghost use Rattle.b3_board.specs.declared.entries.State.TheVariants.{Kept, Open};
 
 use crate::entries::{Entry, KeptNode, State, find};
+use crate::ground::Ground;
 use crate::tree::Tree;
 use b3_core::{Mode, Node, Span, parent_node, sibling};
 
@@ -88,65 +89,69 @@ fn join_two(entries: &mut [Entry], mode: &Mode, left: usize, right: usize)
 }
 
 // Joins the piece at `here` and its sibling, and answers where the joined piece is.
-fn join_siblings(entries: &mut [Entry], tree: &Tree, here: usize, other: usize) -> usize
+fn join_siblings<T: Ground>(entries: &mut [Entry], ground: &T, here: usize, other: usize) -> usize
     requires inside { here < length entries.old }
     requires other_inside { other < length entries.old }
     requires kept { is_kept (at entries.old here).state ≡ true }
     requires other_kept { is_kept (at entries.old other).state ≡ true }
-    requires siblings { AreSiblings (chunks (length tree.now.input.now))
+    requires siblings { AreSiblings (chunks (T.known ground.now).len)
         (at entries.old here).span (at entries.old other).span }
-    requires sound { Sound tree.now.input.now tree.now.mode tree.now.first entries.old }
-    requires apart { ApartBut (chunks (length tree.now.input.now)) here entries.old }
-    ensures { IsJoined tree.now.input.now tree.now.mode tree.now.first entries.old here entries.new result }
+    requires sound { Sound (T.known ground.now) (T.mode ground.now) (T.first ground.now) entries.old }
+    requires apart { ApartBut (chunks (T.known ground.now).len) here entries.old }
+    requires few { chunks (T.known ground.now).len ≤ 2 ^ 54 }
+    ensures { IsJoined (T.known ground.now) (T.mode ground.now) (T.first ground.now)
+        entries.old here entries.new result }
 {
+    let mode = ground.tree_mode();
     if other < here {
-        join_two(entries, &tree.mode, other, here);
+        join_two(entries, mode, other, here);
         other
     } else {
-        join_two(entries, &tree.mode, here, other);
+        join_two(entries, mode, here, other);
         here
     }
 }
 
 // Joins the piece at `from` with its sibling, and what comes of it with its own, as long as there is one.
-fn merge_up(entries: &mut [Entry], tree: &Tree, from: usize)
+fn merge_up<T: Ground>(entries: &mut [Entry], ground: &T, from: usize)
     requires inside { from < length entries.old }
     requires kept { is_kept (at entries.old from).state ≡ true }
-    requires sound { Sound tree.now.input.now tree.now.mode tree.now.first entries.old }
-    requires apart { ApartBut (chunks (length tree.now.input.now)) from entries.old }
-    ensures lawful { Lawful tree.now.input.now tree.now.mode tree.now.first entries.new }
+    requires sound { Sound (T.known ground.now) (T.mode ground.now) (T.first ground.now) entries.old }
+    requires apart { ApartBut (chunks (T.known ground.now).len) from entries.old }
+    ensures lawful { Lawful (T.known ground.now) (T.mode ground.now) (T.first ground.now) entries.new }
     ensures same_chunks { (k : ℕ) → sum_by (kept_chunk k) entries.new ≡ sum_by (kept_chunk k) entries.old }
     ensures same_count { sum_by kept_count entries.new ≡ sum_by kept_count entries.old }
     ensures same_open { map open_span entries.new ≡ map open_span entries.old }
 {
-    let n = tree.size();
+    let n = ground.chunk_count();
     let mut here = from;
     while let Some(other) = partner(entries, n, here) {
-        here = join_siblings(entries, tree, here, other);
+        here = join_siblings(entries, ground, here, other);
     }
 }
 
 // Closes the open span at `place` with its node, and joins siblings as long as there are any.
-pub(crate) fn settle(entries: &mut [Entry], tree: &Tree, place: usize, kept: KeptNode)
+pub(crate) fn settle<T: Ground>(entries: &mut [Entry], ground: &T, place: usize, kept: KeptNode)
     requires inside { place < length entries.old }
     requires open { (at entries.old place).state ≡ Open }
-    requires top { IsNodeOf tree.now.input.now tree.now.mode tree.now.first (at entries.old place).span kept.node }
+    requires top { IsNodeOf (T.known ground.now) (T.mode ground.now) (T.first ground.now)
+        (at entries.old place).span kept.node }
     requires chaining { kept.chaining_value ≡ chaining kept.node }
-    requires lawful { Lawful tree.now.input.now tree.now.mode tree.now.first entries.old }
-    ensures lawful { Lawful tree.now.input.now tree.now.mode tree.now.first entries.new }
+    requires lawful { Lawful (T.known ground.now) (T.mode ground.now) (T.first ground.now) entries.old }
+    ensures lawful { Lawful (T.known ground.now) (T.mode ground.now) (T.first ground.now) entries.new }
     ensures chunks { (k : ℕ) → sum_by (kept_chunk k) entries.new ≡ sum_by (kept_chunk k) entries.old
         + has k (at entries.old place).span.first (at entries.old place).span.count }
     ensures count { sum_by kept_count entries.new ≡ sum_by kept_count entries.old + (at entries.old place).span.count }
     ensures opens { map open_span entries.new ≡ slice_set (map open_span entries.old) place None }
 {
     entries[place].state = State::Kept(kept);
-    merge_up(entries, tree, place);
+    merge_up(entries, ground, place);
 }
 
 // Hashes and closes every open span, and answers how many chunks these were.
 pub(crate) fn settle_all(entries: &mut [Entry], tree: &Tree) -> u64
-    requires lawful { Lawful tree.now.input.now tree.now.mode tree.now.first entries.old }
-    ensures lawful { Lawful tree.now.input.now tree.now.mode tree.now.first entries.new }
+    requires lawful { Lawful (in_memory tree.now.input.now) tree.now.mode tree.now.first entries.old }
+    ensures lawful { Lawful (in_memory tree.now.input.now) tree.now.mode tree.now.first entries.new }
     ensures len { length entries.new ≡ length entries.old }
     ensures none { NoneOpen entries.new }
     ensures count { sum_by kept_count entries.new ≡ sum_by kept_count entries.old + result }
@@ -162,8 +167,8 @@ pub(crate) fn settle_all(entries: &mut [Entry], tree: &Tree) -> u64
 // Hashes and closes the span at `place` where it is open, and answers how many chunks were closed.
 fn settle_if_open(entries: &mut [Entry], tree: &Tree, place: usize) -> u64
     requires inside { place < length entries.old }
-    requires lawful { Lawful tree.now.input.now tree.now.mode tree.now.first entries.old }
-    ensures lawful { Lawful tree.now.input.now tree.now.mode tree.now.first entries.new }
+    requires lawful { Lawful (in_memory tree.now.input.now) tree.now.mode tree.now.first entries.old }
+    ensures lawful { Lawful (in_memory tree.now.input.now) tree.now.mode tree.now.first entries.new }
     ensures closed { open_span (at entries.new place) ≡ None }
     ensures others { (i : ℕ) → open_span (at entries.old i) ≡ None → open_span (at entries.new i) ≡ None }
     ensures len { length entries.new ≡ length entries.old }
@@ -186,12 +191,12 @@ fn settle_if_open(entries: &mut [Entry], tree: &Tree, place: usize) -> u64
 }
 
 // The node of the root, where nothing is open.
-pub(crate) fn root_of(entries: &[Entry], tree: &Tree) -> Option<Node>
-    requires { Lawful tree.now.input.now tree.now.mode tree.now.first entries.now }
+pub(crate) fn root_of<T: Ground>(entries: &[Entry], ground: &T) -> Option<Node>
+    requires { Lawful (T.known ground.now) (T.mode ground.now) (T.first ground.now) entries.now }
     ensures there { IsSome result ↔ NoneOpen entries.now }
-    ensures top { IfSome result (λ node. node ≡ top tree.now.mode tree.now.first tree.now.input.now) }
+    ensures top { IfSome result (λ node. IsRootOf (T.known ground.now) (T.mode ground.now) (T.first ground.now) node) }
 {
-    if entries.is_empty() || entries[0].span.count != tree.size() {
+    if entries.is_empty() || entries[0].span.count != ground.chunk_count() {
         return None;
     }
     match entries[0].state {

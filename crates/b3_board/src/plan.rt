@@ -19,7 +19,7 @@ use b3_core::{Mode, Span, chunks};
 use std::alloc::Global;
 use std::marker::{Model, PhantomData};
 
-const MAX_INPUT: usize = 1 << 30;
+pub(crate) const MAX_INPUT: usize = 1 << 30;
 
 /// An input with a mode, cut into at most 1,024 spans of chunks, each a subtree (BLAKE3 (2020), 2.1).
 ///
@@ -167,6 +167,13 @@ impl<'a> Plan<'a> {
         ensures small { chunks_in self.now.spans ≤ 2 ^ 20 }
     {
         self.spans.len()
+    }
+
+    // The spans.
+    pub(crate) fn spans(&self) -> &[Span]
+        ensures { result.now ≡ self.now.spans }
+    {
+        self.spans.as_slice()
     }
 
     // The number of chunks.

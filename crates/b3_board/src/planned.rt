@@ -4,7 +4,7 @@ ghost use Rattle.std.specs.Prelude.{◌≡◌, ℕ, ◌+◌, ◌<◌, ◌≤◌,
 ghost use Rattle.b3_core.specs.Nodes.{chaining};
 ghost use Rattle.b3_core.specs.Tree.{chunks};
 ghost use Rattle.b3_core.specs.declared.modes.Mode.{Mode};
-ghost use Rattle.b3_board.specs.Spans.{IsNodeOf, top_of};
+ghost use Rattle.b3_board.specs.Spans.{top_of};
 
 use crate::tree::Tree;
 use b3_core::{Mode, Node, Span};
@@ -88,7 +88,7 @@ pub struct OwnDone<L: Planned> {
     pub(crate) node: Node,
     pub(crate) chaining_value: [u32; 8],
     of: PhantomData<L>,
-    ghost is_top: { IsNodeOf L.input L.mode L.first span node },
+    ghost is_top: { node ≡ top_of L.input L.mode L.first span },
     ghost is_chaining: { chaining_value ≡ chaining node },
 }
 

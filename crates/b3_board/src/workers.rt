@@ -1,4 +1,4 @@
-// A worker goes through the spans of a plan: it claims, hashes, passes the gate and deposits.
+// A worker goes through spans: it claims, hashes, passes the gate and deposits.
 
 ghost use Rattle.std.specs.Prelude.{◌≡◌, ℕ, ◌+◌, ◌<◌, ◌≤◌, length};
 ghost use Rattle.b3_board.specs.Plans.{IsPlanOf};
@@ -7,11 +7,13 @@ ghost use Rattle.b3_board.specs.WorkerRuns.{HasWorked, count_at};
 
 use crate::board::Board;
 use crate::claims::{Claims, Seat};
+use crate::course::Course;
 use crate::ended::Ended;
 use crate::gate::Gate;
 use crate::plan::Plan;
 use crate::planned::Planned;
 use crate::share::Share;
+use std::sync::ledger::Ledger;
 use std::sync::{Mutex, Wait};
 
 /// Tries every span of the plan in order. For each that it claims, it hashes the span without the lock,
@@ -35,50 +37,67 @@ pub fn worker<'a, R: Wait, L: Planned, G: Gate + Sync>(
     ensures own { IsSeatOf claims.now result.seat }
     ensures worked { HasWorked plan.now.spans (length plan.now.spans) seat share result.seat result.share }
 {
-    work(rt, plan, board, claims, &mut seat, &mut share, number, gate);
+    work(
+        rt,
+        plan,
+        board,
+        claims,
+        &mut seat,
+        &mut share,
+        &mut [],
+        number,
+        gate,
+    );
     Ended { seat, share }
 }
 
-// The same with seat and share lent, which saves a run the copies of its workers' lists.
-pub(crate) fn work<'a, R: Wait, L: Planned, G: Gate + Sync>(
+// The same for any course, with seat, share and a room lent, which saves a run the copies of its workers' lists.
+pub(crate) fn work<R: Wait, L: Ledger, B, C: Course<L, B>, G: Gate + Sync>(
     rt: &R,
-    plan: &Plan<'a>,
-    board: &Mutex<Board<'a, L>>,
+    course: &C,
+    board: &Mutex<B>,
     claims: &Claims,
     seat: &mut Seat,
     share: &mut Share<L>,
+    room: &mut [u8],
     number: usize,
     gate: &G,
 )
-    requires plan { IsPlanOf L.input L.mode L.first plan.now }
-    requires count { claims.now.count ≡ length plan.now.spans }
+    requires own_course { C.is_own course.now }
+    requires count { claims.now.count ≡ length (C.spans course.now) }
     requires own { IsSeatOf claims.now seat.old }
     ensures own { IsSeatOf claims.now seat.new }
-    ensures worked { HasWorked plan.now.spans (length plan.now.spans) seat.old share.old seat.new share.new }
+    ensures worked { HasWorked (C.spans course.now) (length (C.spans course.now))
+        seat.old share.old seat.new share.new }
 {
-    for i in 0..plan.len() {
+    for i in 0..course.span_count() {
         if claims.try_claim(seat, i) {
-            hash_span(rt, plan, board, share, number, i, gate);
+            hash_span(rt, course, board, share, room, number, i, gate);
         }
     }
 }
 
-// Hashes span `i` without the lock, passes the gate and deposits under the lock.
-fn hash_span<'a, R: Wait, L: Planned, G: Gate + Sync>(
+// Hashes span `i` without the lock, passes the gate and deposits under the lock. A span whose bytes cannot be had stays
+// open.
+fn hash_span<R: Wait, L: Ledger, B, C: Course<L, B>, G: Gate + Sync>(
     rt: &R,
-    plan: &Plan<'a>,
-    board: &Mutex<Board<'a, L>>,
+    course: &C,
+    board: &Mutex<B>,
     share: &mut Share<L>,
+    room: &mut [u8],
     number: usize,
     i: usize,
     gate: &G,
 )
-    requires plan { IsPlanOf L.input L.mode L.first plan.now }
-    requires index { i < length plan.now.spans }
+    requires own_course { C.is_own course.now }
+    requires index { i < length (C.spans course.now) }
     ensures parts { share.new.parts ≡ share.old.parts }
-    ensures grown { share.new.chunks ≤ share.old.chunks + count_at plan.now.spans i }
+    ensures grown { share.new.chunks ≤ share.old.chunks + count_at (C.spans course.now) i }
 {
-    let own = plan.own_job::<L>(i).unwrap().work();
+    let Some(done) = course.hash(i, room) else {
+        return;
+    };
     gate.pass(number, i);
-    let _refused = board.lock(rt).deposit_own(own, share);
+    let mut board = board.lock(rt);
+    course.deposit(&mut board, done, share);
 }

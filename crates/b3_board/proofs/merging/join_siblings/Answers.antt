@@ -1,40 +1,48 @@
-use Rattle.std.proofs.Common.{inl, inr, length, refl, arith}
-use Rattle.b3_core.specs.Tree.{chunks}
+use Rattle.std.proofs.Common.{inl, inr, refl, ap, ◌∙◌, arith}
+use Rattle.b3_core.specs.Tree.{chunks, parent_node}
+use Rattle.b3_board.specs.Entries.{joined}
 use Rattle.b3_board.proofs.Partners.{siblings_fit, under, over}
 use Rattle.b3_board.proofs.Steps.{is_joined_well}
 use Rattle.b3_board.proofs.merging.join_siblings.Goals as goal
 
 pub join_two-requires-clause-fits : goal.join_two-requires-clause-fits
-join_two-requires-clause-fits c =
-    let h = siblings_fit (chunks (length c.args.tree.now.input.now)) _ _ (omega arith) c.requires.siblings in
-    omega (arith, c.args.tree.now.low)
+join_two-requires-clause-fits g c =
+    let h = siblings_fit (chunks (g.T.Ground.known c.args.ground.now).len) _ _ (omega arith) c.requires.siblings in
+    omega (arith, c.requires.few)
 
 pub join_two-requires-else-other-here-clause-fits : goal.join_two-requires-else-other-here-clause-fits
-join_two-requires-else-other-here-clause-fits c =
-    let h = siblings_fit (chunks (length c.args.tree.now.input.now)) _ _ (omega arith) c.requires.siblings in
-    omega (arith, c.args.tree.now.low)
+join_two-requires-else-other-here-clause-fits g c =
+    let h = siblings_fit (chunks (g.T.Ground.known c.args.ground.now).len) _ _ (omega arith) c.requires.siblings in
+    omega (arith, c.requires.few)
 
 pub join_two-requires-else-other-here-clause-apart : goal.join_two-requires-else-other-here-clause-apart
-join_two-requires-else-other-here-clause-apart c =
-    let h = over (chunks (length c.args.tree.now.input.now)) c.args.entries.now c.args.here c.args.other (omega arith)
+join_two-requires-else-other-here-clause-apart g c =
+    let n = chunks (g.T.Ground.known c.args.ground.now).len in
+    let h = over n c.args.entries.now c.args.here c.args.other (omega arith)
     c.requires.sound.in_order c.requires.inside c.requires.other_inside c.requires.siblings c.if-other-here.false in
     h.0
 
 pub returns-then-other-here : goal.returns-then-other-here
-returns-then-other-here c =
-    let tree = c.args.tree.now in
-    let h = under (chunks (length tree.input.now)) c.args.entries.now c.args.here c.args.other (omega arith)
+returns-then-other-here g c =
+    let of = g.T.Ground in
+    let on = c.args.ground.now in
+    let h = under (chunks (of.known on).len) c.args.entries.now c.args.here c.args.other (omega arith)
     c.requires.sound.in_order c.requires.inside c.requires.other_inside c.requires.siblings c.if-other-here.true in
-    is_joined_well tree.input.now tree.mode tree.first c.args.entries.now c.args.here
+    is_joined_well (of.known on) (of.mode on) (of.first on) c.args.entries.now c.args.here
     c.join_two.new.entries c.args.other c.args.here c.requires.other_inside c.requires.inside h.0
-    c.requires.other_kept c.requires.kept h.1 c.requires.sound c.requires.apart (inr refl) c.join_two.ensures
+    c.requires.other_kept c.requires.kept h.1 c.requires.sound c.requires.apart (inr refl)
+    (λ a b a_is b_is. c.join_two.ensures a b a_is b_is ∙ ap (λ m. joined c.args.entries.now c.args.other c.args.here
+    (parent_node m a.chaining_value b.chaining_value)) c.tree_mode-mode.ensures)
 
 pub returns-else-other-here : goal.returns-else-other-here
-returns-else-other-here c =
-    let tree = c.args.tree.now in
-    let h = over (chunks (length tree.input.now)) c.args.entries.now c.args.here c.args.other (omega arith)
+returns-else-other-here g c =
+    let of = g.T.Ground in
+    let on = c.args.ground.now in
+    let h = over (chunks (of.known on).len) c.args.entries.now c.args.here c.args.other (omega arith)
     c.requires.sound.in_order c.requires.inside c.requires.other_inside c.requires.siblings c.if-other-here.false in
-    is_joined_well tree.input.now tree.mode tree.first c.args.entries.now c.args.here
+    is_joined_well (of.known on) (of.mode on) (of.first on) c.args.entries.now c.args.here
     c.join_two-else-other-here.new.entries c.args.here c.args.other c.requires.inside c.requires.other_inside h.0
     c.requires.kept c.requires.other_kept h.1 c.requires.sound c.requires.apart (inl refl)
-    c.join_two-else-other-here.ensures
+    (λ a b a_is b_is. c.join_two-else-other-here.ensures a b a_is b_is
+    ∙ ap (λ m. joined c.args.entries.now c.args.here c.args.other (parent_node m a.chaining_value b.chaining_value))
+    c.tree_mode-mode.ensures)

@@ -4,15 +4,15 @@ use Rattle.b3_board.specs.Entries.{ApartBut, Sound, at, is_kept, kept_chunk, kep
 use Rattle.b3_board.proofs.merging.merge_up.Given as goal
 
 abbrev pub invariant-loop-other : goal.invariant-loop-other
-invariant-loop-other l = record {
+invariant-loop-other g l = record {
   inside : l.here < length l.entries;
   kept : is_kept (at l.entries l.here).state ≡ true;
-  sound : Sound l.tree.input.now l.tree.mode l.tree.first l.entries;
-  apart : ApartBut (chunks (length l.tree.input.now)) l.here l.entries;
+  sound : Sound (g.T.Ground.known l.ground) (g.T.Ground.mode l.ground) (g.T.Ground.first l.ground) l.entries;
+  apart : ApartBut (chunks (g.T.Ground.known l.ground).len) l.here l.entries;
   same_chunks : (k : ℕ) → sum_by (kept_chunk k) l.entries ≡ sum_by (kept_chunk k) l.fn.entries;
   same_count : sum_by kept_count l.entries ≡ sum_by kept_count l.fn.entries;
   same_open : map open_span l.entries ≡ map open_span l.fn.entries;
 }
 
 abbrev pub decreases-loop-other : goal.decreases-loop-other
-decreases-loop-other l = chunks (length l.tree.input.now) - (at l.entries l.here).span.count
+decreases-loop-other g l = chunks (g.T.Ground.known l.ground).len - (at l.entries l.here).span.count

@@ -7,39 +7,44 @@ use Rattle.b3_board.proofs.Steps.{closed-apart, closed-kept_chunk, closed-kept_c
 use Rattle.b3_board.proofs.merging.settle.Goals as goal
 
 pub merge_up-requires-clause-kept : goal.merge_up-requires-clause-kept
-merge_up-requires-clause-kept c =
+merge_up-requires-clause-kept g c =
     let closed : Entry = record { span = (at c.args.entries.now c.args.place).span; state = Kept c.args.kept } in
     ap (λ e. is_kept e.state) (get_or-set_same c.args.entries.now c.args.place closed nothing c.requires.inside)
 
 pub merge_up-requires-clause-sound : goal.merge_up-requires-clause-sound
-merge_up-requires-clause-sound c =
-    let tree = c.args.tree.now in
-    closed-sound tree.input.now tree.mode tree.first c.args.entries.now c.requires.lawful c.args.place
+merge_up-requires-clause-sound g c =
+    let of = g.T.Ground in
+    let on = c.args.ground.now in
+    closed-sound (of.known on) (of.mode on) (of.first on) c.args.entries.now c.requires.lawful c.args.place
     c.requires.inside c.requires.open c.args.kept c.requires.top c.requires.chaining
 
 pub merge_up-requires-clause-apart : goal.merge_up-requires-clause-apart
-merge_up-requires-clause-apart c =
-    let tree = c.args.tree.now in
-    closed-apart tree.input.now tree.mode tree.first c.args.entries.now c.requires.lawful c.args.place
+merge_up-requires-clause-apart g c =
+    let of = g.T.Ground in
+    let on = c.args.ground.now in
+    closed-apart (of.known on) (of.mode on) (of.first on) c.args.entries.now c.requires.lawful c.args.place
     c.requires.inside c.requires.open c.args.kept c.requires.top c.requires.chaining
 
 pub returns-clause-chunks : goal.returns-clause-chunks
-returns-clause-chunks c = λ k.
-    let tree = c.args.tree.now in
+returns-clause-chunks g c = λ k.
+    let of = g.T.Ground in
+    let on = c.args.ground.now in
     c.merge_up.ensures.same_chunks k
-    ∙ closed-kept_chunk tree.input.now tree.mode tree.first c.args.entries.now c.requires.lawful c.args.place
+    ∙ closed-kept_chunk (of.known on) (of.mode on) (of.first on) c.args.entries.now c.requires.lawful c.args.place
     c.requires.inside c.requires.open c.args.kept c.requires.top c.requires.chaining k
 
 pub returns-clause-count : goal.returns-clause-count
-returns-clause-count c =
-    let tree = c.args.tree.now in
+returns-clause-count g c =
+    let of = g.T.Ground in
+    let on = c.args.ground.now in
     c.merge_up.ensures.same_count
-    ∙ closed-kept_count tree.input.now tree.mode tree.first c.args.entries.now c.requires.lawful c.args.place
+    ∙ closed-kept_count (of.known on) (of.mode on) (of.first on) c.args.entries.now c.requires.lawful c.args.place
     c.requires.inside c.requires.open c.args.kept c.requires.top c.requires.chaining
 
 pub returns-clause-opens : goal.returns-clause-opens
-returns-clause-opens c =
-    let tree = c.args.tree.now in
+returns-clause-opens g c =
+    let of = g.T.Ground in
+    let on = c.args.ground.now in
     c.merge_up.ensures.same_open
-    ∙ closed-open tree.input.now tree.mode tree.first c.args.entries.now c.requires.lawful c.args.place
+    ∙ closed-open (of.known on) (of.mode on) (of.first on) c.args.entries.now c.requires.lawful c.args.place
     c.requires.inside c.requires.open c.args.kept c.requires.top c.requires.chaining

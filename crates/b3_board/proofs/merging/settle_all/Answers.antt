@@ -2,6 +2,7 @@ use Rattle.std.proofs.Common.{inl, inr, length, arith, ap}
 use Rattle.std.proofs.lemmas.Bool.{cases_lt}
 use Rattle.std.proofs.lemmas.List.{get_or_past}
 use Rattle.b3_board.specs.Entries.{nothing, open_span}
+use Rattle.b3_board.specs.Spans.{in_memory}
 use Rattle.b3_board.proofs.OpenSpans.{all_kept}
 use Rattle.b3_board.proofs.merging.settle_all.Goals as goal
 
@@ -15,5 +16,6 @@ pub returns-clause-waiting : goal.returns-clause-waiting
 returns-clause-waiting c =
     let tree = c.args.tree.now in
     let now = c.spans.invariant in
-    let all = all_kept tree.input.now tree.mode tree.first c.spans.entries now.lawful (returns-clause-none c) in
+    let all = all_kept (in_memory tree.input.now) tree.mode tree.first c.spans.entries now.lawful
+    (returns-clause-none c) in
     omega (arith, all, c.spans.invariant.count, c.requires.lawful.sound.all)

@@ -1,11 +1,12 @@
 use Rattle.std.proofs.Common.{◌≡◌, ℕ, ◌+◌, ◌<◌, None, length}
 use Rattle.std.specs.List.{sum_by}
 use Rattle.b3_board.specs.Entries.{Lawful, at, kept_count, open_span}
+use Rattle.b3_board.specs.Spans.{in_memory}
 use Rattle.b3_board.proofs.merging.settle_all.Given as goal
 
 abbrev pub invariant-spans : goal.invariant-spans
 invariant-spans l = record {
-  lawful : Lawful l.tree.input.now l.tree.mode l.tree.first l.entries;
+  lawful : Lawful (in_memory l.tree.input.now) l.tree.mode l.tree.first l.entries;
   closed : (i : ℕ) → i < l.place → open_span (at l.entries i) ≡ None;
   len : length l.entries ≡ length l.fn.entries;
   count : sum_by kept_count l.entries ≡ sum_by kept_count l.fn.entries + l.count;

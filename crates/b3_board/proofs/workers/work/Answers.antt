@@ -8,7 +8,7 @@ use Rattle.b3_board.proofs.workers.work.Goals as goal
 
 pub loop-i-preserved : goal.loop-i-preserved
 loop-i-preserved g c =
-    let spans = c.args.plan.now.spans in
+    let spans = g.C.Course.spans c.args.course.now in
     let i = c.loop-i.i in
     let old = c.args.seat.now in
     let held = c.args.share.now in

@@ -9,9 +9,10 @@ use Rattle.b3_board.specs.Entries.{at, kept_chunk, kept_count, open_span}
 use Rattle.b3_board.specs.Pictures.{IsDeposit, IsLawful, IsOwn, Picture}
 use Rattle.b3_board.specs.Plans.{Hashed}
 use Rattle.b3_board.specs.declared.entries.Entry.{Entry}
-use Rattle.b3_board.specs.Spans.{has}
+use Rattle.b3_board.specs.Spans.{IsNodeOf, has, in_memory, top_of}
 use Rattle.b3_board.specs.declared.entries.State.TheVariants.{Open}
 use Rattle.b3_board.proofs.Deposits.{Contains-open, deposited, not_open}
+use Rattle.b3_board.proofs.KnownNodes.{in_memory-IsNodeOf}
 use Rattle.b3_board.proofs.Picturing.{lawful_picture, picture_of}
 use Rattle.b3_board.proofs.OpenSpans.{open_inside, same_length}
 use Rattle.b3_board.proofs.board.Board.deposit.Goals as goal
@@ -23,7 +24,7 @@ returns-in_default-clause-ok g c =
     → (at board.entries.items i).span ≢ c.done.inside.span =
     rw c.as_slice.ensures.value at c.in_default.ensures.none in
     let absent : ¬ Contains c.args.self.now.open_spans c.args.done.span =
-    subst (λ (p : Picture). ¬ Contains p.open_spans c.args.done.span) c.self.view_is
+    subst (λ (p : Picture (List ℕ)). ¬ Contains p.open_spans c.args.done.span) c.self.view_is
     (not_open board.entries.items c.args.done.span
     (λ i state_is span_is. none i state_is (span_is ∙ sym (ap (λ (d : Hashed). d.span) c.done.view_is)))) in
     (λ h. absurd (false≢true h), λ own. absurd (absent own.0))
@@ -43,7 +44,7 @@ returns-in_default-clause-other_bytes g c = λ there other.
     → (at board.entries.items i).span ≢ c.done.inside.span =
     rw c.as_slice.ensures.value at c.in_default.ensures.none in
     let absent : ¬ Contains c.args.self.now.open_spans c.args.done.span =
-    subst (λ (p : Picture). ¬ Contains p.open_spans c.args.done.span) c.self.view_is
+    subst (λ (p : Picture (List ℕ)). ¬ Contains p.open_spans c.args.done.span) c.self.view_is
     (not_open board.entries.items c.args.done.span
     (λ i state_is span_is. none i state_is (span_is ∙ sym (ap (λ (d : Hashed). d.span) c.done.view_is)))) in
     absurd (absent there)
@@ -52,7 +53,7 @@ pub is_of-requires-clause-inside : goal.is_of-requires-clause-inside
 is_of-requires-clause-inside g c =
     let board = c.self.inside in
     let found = rw c.as_slice.ensures.value at c.in-Some.ensures.found in
-    let h = open_inside board.tree.input.now board.tree.mode board.tree.first board.entries.items
+    let h = open_inside (in_memory board.tree.input.now) board.tree.mode board.tree.first board.entries.items
     c.self.invariant.lawful c.in-Some.place found.1 in
     subst (λ (s : Span). s.first + s.count ≤ chunks (length c.self.inside.tree.input.now)) (found.2
     ∙ (ap (λ (d : Hashed). d.span) c.done.view_is)) h.0
@@ -63,7 +64,7 @@ returns-then-not-is_of-clause-not_open g c = λ absent.
     let found = rw c.as_slice.ensures.value at c.in-Some.ensures.found in
     let there = Contains-open board.entries.items c.in-Some.place c.args.done.span found.0 found.1 (found.2
     ∙ (ap (λ (d : Hashed). d.span) c.done.view_is)) in
-    absurd (absent (subst (λ (p : Picture). Contains p.open_spans c.args.done.span) c.self.view_is there))
+    absurd (absent (subst (λ (p : Picture (List ℕ)). Contains p.open_spans c.args.done.span) c.self.view_is there))
 
 pub returns-then-not-is_of-clause-lawful : goal.returns-then-not-is_of-clause-lawful
 returns-then-not-is_of-clause-lawful g c =
@@ -81,9 +82,10 @@ returns-clause-ok g c =
     ∙ (ap (λ (d : Hashed). d.span) c.done.view_is)) in
     let same = c.is_of.ensures.0 (search (rules, c.if-not-is_of.false)) in
     let own : IsOwn c.args.self.now c.args.done =
-    subst (λ (p : Picture). IsOwn p c.args.done) c.self.view_is
+    subst (λ (p : Picture (List ℕ)). IsOwn p c.args.done) c.self.view_is
     (record { bytes_are = same.0; mode_is = same.1; first_is = same.2 }) in
-    (λ h. (subst (λ (p : Picture). Contains p.open_spans c.args.done.span) c.self.view_is there, own), λ h. refl)
+    let here = subst (λ (p : Picture (List ℕ)). Contains p.open_spans c.args.done.span) c.self.view_is there in
+    (λ h. (here, own), λ h. refl)
 
 pub returns-clause-not_open : goal.returns-clause-not_open
 returns-clause-not_open g c = λ absent.
@@ -91,7 +93,7 @@ returns-clause-not_open g c = λ absent.
     let found = rw c.as_slice.ensures.value at c.in-Some.ensures.found in
     let there = Contains-open board.entries.items c.in-Some.place c.args.done.span found.0 found.1 (found.2
     ∙ (ap (λ (d : Hashed). d.span) c.done.view_is)) in
-    absurd (absent (subst (λ (p : Picture). Contains p.open_spans c.args.done.span) c.self.view_is there))
+    absurd (absent (subst (λ (p : Picture (List ℕ)). Contains p.open_spans c.args.done.span) c.self.view_is there))
 
 pub returns-clause-step : goal.returns-clause-step
 returns-clause-step g c =
@@ -105,7 +107,7 @@ returns-clause-step g c =
     let joins : (k : ℕ) → sum_by (kept_chunk k) c.settle.new.entries
     ≡ sum_by (kept_chunk k) board.entries.items + has k closed.first closed.count =
     λ k. search (rules, c.settle.ensures.chunks k, c.as_mut_slice.ensures.value) in
-    let of : List Entry → ℕ → Picture = picture_of tree.input.now tree.mode tree.first in
+    let of : List Entry → ℕ → Picture (List ℕ) = picture_of tree.input.now tree.mode tree.first in
     let step = deposited tree.input.now tree.mode tree.first board.entries.items c.settle.new.entries c.in-Some.place
     c.args.done.span board.account.chunks found.1 (found.2 ∙ span_is) opens joins in
     let book_is = c.credit.ensures.chunks ∙ ap (λ (s : Span). board.account.chunks + s.count) span_is in
@@ -115,7 +117,7 @@ returns-clause-step g c =
     with_items_is board.entries c.settle.new.entries
     (same_length board.entries.items c.settle.new.entries c.in-Some.place opens ∙ sym board.entries.ok.0) in
     let after = of c.settle.new.entries c.credit.new.self.chunks in
-    let moved = subst (λ (p : Picture). IsDeposit p c.args.done.span after) c.self.view_is booked in
+    let moved = subst (λ (p : Picture (List ℕ)). IsDeposit p c.args.done.span after) c.self.view_is booked in
     let P : List Entry → Type 0 =
     λ es. IsDeposit c.args.self.now c.args.done.span (of es c.credit.new.self.chunks) in
     subst P (sym items) moved
@@ -140,3 +142,16 @@ returns-clause-lawful g c =
     subst P (sym items)
     (lawful_picture tree.input.now tree.mode tree.first c.settle.new.entries c.settle.ensures.lawful
     c.credit.new.self.chunks booked)
+
+pub settle-requires-clause-top : goal.settle-requires-clause-top
+settle-requires-clause-top g c =
+    let board = c.self.inside in
+    let tree = board.tree in
+    let done = c.done.inside in
+    let found = rw c.as_slice.ensures.value at c.in-Some.ensures.found in
+    let span = (at board.entries.items c.in-Some.place).span in
+    let same = c.is_of.ensures.0 (search (rules, c.if-not-is_of.false)) in
+    let is : done.node ≡ top_of tree.input.now tree.mode tree.first span = search (rules, same, found.2, done.is_top) in
+    let node : IsNodeOf (in_memory tree.input.now) tree.mode tree.first span done.node =
+    in_memory-IsNodeOf tree.input.now tree.mode tree.first span done.node is in
+    rw c.as_mut_slice.ensures.value node

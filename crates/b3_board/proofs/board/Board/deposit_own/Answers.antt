@@ -7,9 +7,10 @@ use Rattle.b3_core.specs.declared.tree.Span.{Span}
 use Rattle.b3_board.specs.Entries.{at, kept_chunk, kept_count, open_span}
 use Rattle.b3_board.specs.Pictures.{IsDeposit, IsLawful, Picture, Piece}
 use Rattle.b3_board.specs.declared.entries.Entry.{Entry}
-use Rattle.b3_board.specs.Spans.{has}
+use Rattle.b3_board.specs.Spans.{IsNodeOf, has, in_memory, top_of}
 use Rattle.b3_board.specs.declared.entries.State.TheVariants.{Open}
 use Rattle.b3_board.proofs.Deposits.{Contains-open, deposited, not_open}
+use Rattle.b3_board.proofs.KnownNodes.{in_memory-IsNodeOf}
 use Rattle.b3_board.proofs.Picturing.{lawful_picture, picture_of}
 use Rattle.b3_board.proofs.OpenSpans.{same_length}
 use Rattle.b3_board.proofs.board.Board.deposit_own.Goals as goal
@@ -20,7 +21,7 @@ returns-in_default-clause-ok g c =
     let none : (i : ℕ) → (at board.entries.items i).state ≡ Open → (at board.entries.items i).span ≢ c.own.inside.span =
     rw c.as_slice.ensures.value at c.in_default.ensures.none in
     let absent : ¬ Contains c.args.self.now.open_spans c.args.own.span =
-    subst (λ (p : Picture). ¬ Contains p.open_spans c.args.own.span) c.self.view_is
+    subst (λ (p : Picture (List ℕ)). ¬ Contains p.open_spans c.args.own.span) c.self.view_is
     (not_open board.entries.items c.args.own.span
     (λ i state_is span_is. none i state_is (span_is ∙ sym (ap (λ (d : Piece). d.span) c.own.view_is)))) in
     (λ h. absurd (false≢true h), λ own. absurd (absent own))
@@ -39,7 +40,7 @@ returns-clause-ok g c =
     let found = rw c.as_slice.ensures.value at c.in-Some.ensures.found in
     let there = Contains-open board.entries.items c.in-Some.place c.args.own.span found.0 found.1 (found.2
     ∙ (ap (λ (d : Piece). d.span) c.own.view_is)) in
-    (λ h. subst (λ (p : Picture). Contains p.open_spans c.args.own.span) c.self.view_is there, λ h. refl)
+    (λ h. subst (λ (p : Picture (List ℕ)). Contains p.open_spans c.args.own.span) c.self.view_is there, λ h. refl)
 
 pub returns-clause-step : goal.returns-clause-step
 returns-clause-step g c =
@@ -53,7 +54,7 @@ returns-clause-step g c =
     let joins : (k : ℕ) → sum_by (kept_chunk k) c.settle.new.entries
     ≡ sum_by (kept_chunk k) board.entries.items + has k closed.first closed.count =
     λ k. search (rules, c.settle.ensures.chunks k, c.as_mut_slice.ensures.value) in
-    let of : List Entry → ℕ → Picture = picture_of tree.input.now tree.mode tree.first in
+    let of : List Entry → ℕ → Picture (List ℕ) = picture_of tree.input.now tree.mode tree.first in
     let step = deposited tree.input.now tree.mode tree.first board.entries.items c.settle.new.entries c.in-Some.place
     c.args.own.span board.account.chunks found.1 (found.2 ∙ span_is) opens joins in
     let book_is = c.credit.ensures.chunks ∙ ap (λ (s : Span). board.account.chunks + s.count) span_is in
@@ -63,7 +64,7 @@ returns-clause-step g c =
     with_items_is board.entries c.settle.new.entries
     (same_length board.entries.items c.settle.new.entries c.in-Some.place opens ∙ sym board.entries.ok.0) in
     let after = of c.settle.new.entries c.credit.new.self.chunks in
-    let moved = subst (λ (p : Picture). IsDeposit p c.args.own.span after) c.self.view_is booked in
+    let moved = subst (λ (p : Picture (List ℕ)). IsDeposit p c.args.own.span after) c.self.view_is booked in
     let P : List Entry → Type 0 =
     λ es. IsDeposit c.args.self.now c.args.own.span (of es c.credit.new.self.chunks) in
     subst P (sym items) moved
@@ -88,3 +89,16 @@ returns-clause-lawful g c =
     subst P (sym items)
     (lawful_picture tree.input.now tree.mode tree.first c.settle.new.entries c.settle.ensures.lawful
     c.credit.new.self.chunks booked)
+
+pub settle-requires-clause-top : goal.settle-requires-clause-top
+settle-requires-clause-top g c =
+    let board = c.self.inside in
+    let tree = board.tree in
+    let kept = c.self.invariant in
+    let found = rw c.as_slice.ensures.value at c.in-Some.ensures.found in
+    let span = (at board.entries.items c.in-Some.place).span in
+    let is : c.own.inside.node ≡ top_of tree.input.now tree.mode tree.first span =
+    search (rules, found.2, kept.input_is, kept.mode_is, kept.first_is, c.own.inside.is_top) in
+    let node : IsNodeOf (in_memory tree.input.now) tree.mode tree.first span c.own.inside.node =
+    in_memory-IsNodeOf tree.input.now tree.mode tree.first span c.own.inside.node is in
+    rw c.as_mut_slice.ensures.value node

@@ -2,6 +2,7 @@ use Rattle.std.proofs.Common.{◌≡◌, [], map, sum_by, sym, subst, ap, ◌∙
 use Rattle.b3_board.specs.Entries.{Lawful, fresh, kept_count, open_spans, pieces}
 use Rattle.b3_board.specs.Pictures.{opened}
 use Rattle.b3_board.specs.Plans.{Outline}
+use Rattle.b3_board.specs.Spans.{in_memory}
 use Rattle.b3_board.proofs.Cuttings.{kept_none, lawful_new, open_spans-fresh, pieces-fresh}
 use Rattle.b3_board.proofs.Picturing.{lawful_picture}
 use Rattle.b3_board.proofs.board.Board.new.Goals as goal
@@ -16,8 +17,8 @@ invariant_of-board g c =
       input_is = ap (λ (o : Outline). o.input) c.plan.view_is ∙ own.input_is;
       mode_is = ap (λ (o : Outline). o.mode) c.plan.view_is ∙ own.mode_is;
       first_is = ap (λ (o : Outline). o.first) c.plan.view_is ∙ own.first_is;
-      lawful = subst (Lawful plan.tree.input.now plan.tree.mode plan.tree.first) (sym items)
-          (lawful_new plan.tree.input.now plan.tree.mode plan.tree.first plan.spans.items plan.cutting);
+      lawful = subst (Lawful (in_memory plan.tree.input.now) plan.tree.mode plan.tree.first) (sym items)
+          (lawful_new (in_memory plan.tree.input.now) plan.tree.mode plan.tree.first plan.spans.items plan.cutting);
       booked = ap (sum_by kept_count) items ∙ kept_none plan.spans.items ∙ sym c.open-account.ensures.chunks;
     }
 

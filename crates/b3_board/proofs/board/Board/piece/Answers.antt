@@ -1,4 +1,4 @@
-use Rattle.std.proofs.Common.{subst}
+use Rattle.std.proofs.Common.{ℕ, List, subst}
 use Rattle.b3_board.specs.Pictures.{IsAscending, Picture, PiecesAreGreatest, piece_spans}
 use Rattle.b3_board.proofs.Deposits.{pieces_ascending}
 use Rattle.b3_board.proofs.Greatest.{pieces_are_greatest}
@@ -7,7 +7,7 @@ use Rattle.b3_board.proofs.board.Board.piece.Goals as goal
 
 pub returns-clause-ascending : goal.returns-clause-ascending
 returns-clause-ascending g c =
-    subst (λ (p : Picture). IsAscending (piece_spans p)) c.self.view_is
+    subst (λ (p : Picture (List ℕ)). IsAscending (piece_spans p)) c.self.view_is
     (pieces_ascending c.self.inside.entries.items c.self.invariant.lawful.sound.in_order)
 
 pub returns-clause-greatest : goal.returns-clause-greatest

@@ -1,4 +1,4 @@
-use Rattle.std.proofs.Common.{◌≡◌, ◌+◌, List, length, sum_by, rules, arith, sym, subst, ap, ◌∙◌}
+use Rattle.std.proofs.Common.{◌≡◌, ℕ, ◌+◌, List, length, sum_by, rules, arith, sym, subst, ap, ◌∙◌}
 use Rattle.std.proofs.lemmas.List.{with_items_is}
 use Rattle.std.specs.Vec.{with_items}
 use Rattle.b3_core.specs.declared.tree.Span.{Span}
@@ -18,7 +18,7 @@ returns-clause-waiting g c =
       c.settle_all-count.ensures.waiting,
       c.as_mut_slice.ensures.value,
     ) in
-    subst (λ (p : Picture). c.settle_all-count.result ≡ chunks_in p.open_spans) c.self.view_is (waiting
+    subst (λ (p : Picture (List ℕ)). c.settle_all-count.result ≡ chunks_in p.open_spans) c.self.view_is (waiting
     ∙ sym (sum_open (λ (s : Span). s.count) board.entries.items))
 
 pub returns-clause-none_open : goal.returns-clause-none_open
@@ -31,9 +31,9 @@ returns-clause-none_open g c =
 
 pub returns-clause-same_input : goal.returns-clause-same_input
 returns-clause-same_input g c = record {
-  input_is = ap (λ (p : Picture). p.input) c.self.view_is;
-  mode_is = ap (λ (p : Picture). p.mode) c.self.view_is;
-  first_is = ap (λ (p : Picture). p.first) c.self.view_is;
+  input_is = ap (λ (p : Picture (List ℕ)). p.input) c.self.view_is;
+  mode_is = ap (λ (p : Picture (List ℕ)). p.mode) c.self.view_is;
+  first_is = ap (λ (p : Picture (List ℕ)). p.first) c.self.view_is;
 }
 
 pub returns-clause-lawful : goal.returns-clause-lawful

@@ -8,11 +8,11 @@ use Rattle.b3_board.specs.WorkerRuns.{HasEnded, seat_parts, share_parts}
 use Rattle.b3_board.specs.declared.claim_rule.View.{View}
 use Rattle.b3_board.proofs.ClaimedIndexes.{has-united_right}
 use Rattle.b3_board.proofs.Hands.{claimed_chunks-joined, claimed_chunks-le}
-use Rattle.b3_board.proofs.parallel.gather.Goals as goal
+use Rattle.b3_board.proofs.crew.gather.Goals as goal
 
 pub join-requires-in-loop-hand : goal.join-requires-in-loop-hand
 join-requires-in-loop-hand g c =
-    let spans = c.args.plan.now.spans in
+    let spans = c.args.spans.now in
     let claims = c.args.claims.now in
     let hand = c.in-Some.hand in
     let left = All-same (HasEnded claims spans) _ _ (sym c.in-Some.ensures.steps.0) c.loop-hand.invariant.rest in
@@ -29,7 +29,7 @@ join-requires-in-loop-hand g c =
 
 pub loop-hand-preserved : goal.loop-hand-preserved
 loop-hand-preserved g c =
-    let spans = c.args.plan.now.spans in
+    let spans = c.args.spans.now in
     let claims = c.args.claims.now in
     let hand = c.in-Some.hand in
     let seat = c.loop-hand.seat in

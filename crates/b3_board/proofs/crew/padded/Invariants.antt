@@ -1,5 +1,5 @@
 use Rattle.std.proofs.Common.{◌≡◌, length, sum}
-use Rattle.b3_board.proofs.parallel.padded.Given as goal
+use Rattle.b3_board.proofs.crew.padded.Given as goal
 
 abbrev pub invariant-loop : goal.invariant-loop
 invariant-loop l = record {

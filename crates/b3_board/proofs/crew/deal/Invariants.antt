@@ -1,7 +1,7 @@
 use Rattle.std.proofs.Common.{◌≡◌, ◌+◌, All, length, sum_by}
 use Rattle.b3_board.specs.Seats.{IsSeatOf}
 use Rattle.b3_board.specs.WorkerRuns.{IsNewHand, seat_parts, share_parts}
-use Rattle.b3_board.proofs.parallel.deal.Given as goal
+use Rattle.b3_board.proofs.crew.deal.Given as goal
 
 abbrev pub invariant-loop : goal.invariant-loop
 invariant-loop g l = record {

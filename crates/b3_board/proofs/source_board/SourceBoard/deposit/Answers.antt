@@ -1,0 +1,99 @@
+use Rattle.std.proofs.Common.{◌≡◌, ◌≢◌, ℕ, ◌+◌, List, None, map, set, sum_by, rules, arith, refl, sym, subst, ap, ◌∙◌}
+use Rattle.std.proofs.lemmas.Bool.{false≢true}
+use Rattle.std.proofs.lemmas.List.{with_items_is}
+use Rattle.std.specs.List.{Contains}
+use Rattle.std.specs.Vec.{with_items}
+use Rattle.b3_core.specs.declared.tree.Span.{Span}
+use Rattle.b3_board.specs.Entries.{at, kept_chunk, kept_count, open_span}
+use Rattle.b3_board.specs.Pictures.{IsDeposit, IsLawfulOver, Picture, Piece}
+use Rattle.b3_board.specs.declared.entries.Entry.{Entry}
+use Rattle.b3_board.specs.Spans.{IsNodeOf, Known, has}
+use Rattle.b3_board.specs.declared.entries.State.TheVariants.{Open}
+use Rattle.b3_board.proofs.Deposits.{Contains-open, deposited, not_open}
+use Rattle.b3_board.proofs.Picturing.{lawful_over, picture_of}
+use Rattle.b3_board.proofs.OpenSpans.{same_length}
+use Rattle.b3_board.proofs.source_board.SourceBoard.deposit.Goals as goal
+
+pub returns-in_default-clause-ok : goal.returns-in_default-clause-ok
+returns-in_default-clause-ok g c =
+    let board = c.self.inside in
+    let none : (i : ℕ) → (at board.entries.items i).state ≡ Open → (at board.entries.items i).span ≢ c.own.inside.span =
+    rw c.as_slice.ensures.value at c.in_default.ensures.none in
+    let absent : ¬ Contains c.args.self.now.open_spans c.args.own.span =
+    subst (λ (p : Picture Known). ¬ Contains p.open_spans c.args.own.span) c.self.view_is
+    (not_open board.entries.items c.args.own.span
+    (λ i state_is span_is. none i state_is (span_is ∙ sym (ap (λ (d : Piece). d.span) c.own.view_is)))) in
+    (λ h. absurd (false≢true h), λ own. absurd (absent own))
+
+pub returns-in_default-clause-lawful : goal.returns-in_default-clause-lawful
+returns-in_default-clause-lawful g c =
+    let board = c.self.inside in
+    let l = g.L.Sourced in
+    let kept = c.self.invariant in
+    subst (IsLawfulOver l.input) c.self.view_is
+    (lawful_over l.input l.mode l.first board.entries.items kept.lawful l.input
+    board.account.chunks kept.booked)
+
+pub returns-clause-ok : goal.returns-clause-ok
+returns-clause-ok g c =
+    let board = c.self.inside in
+    let found = rw c.as_slice.ensures.value at c.in-Some.ensures.found in
+    let there = Contains-open board.entries.items c.in-Some.place c.args.own.span found.0 found.1 (found.2
+    ∙ (ap (λ (d : Piece). d.span) c.own.view_is)) in
+    (λ h. subst (λ (p : Picture Known). Contains p.open_spans c.args.own.span) c.self.view_is there, λ h. refl)
+
+pub returns-clause-step : goal.returns-clause-step
+returns-clause-step g c =
+    let board = c.self.inside in
+    let l = g.L.Sourced in
+    let found = rw c.as_slice.ensures.value at c.in-Some.ensures.found in
+    let opens : map open_span c.settle.new.entries ≡ set (map open_span board.entries.items) c.in-Some.place None =
+    search (rules, c.settle.ensures.opens, c.as_mut_slice.ensures.value) in
+    let span_is = ap (λ (d : Piece). d.span) c.own.view_is in
+    let closed : Span = (at board.entries.items c.in-Some.place).span in
+    let joins : (k : ℕ) → sum_by (kept_chunk k) c.settle.new.entries
+    ≡ sum_by (kept_chunk k) board.entries.items + has k closed.first closed.count =
+    λ k. search (rules, c.settle.ensures.chunks k, c.as_mut_slice.ensures.value) in
+    let of : List Entry → ℕ → Picture Known = picture_of l.input l.mode l.first in
+    let step = deposited l.input l.mode l.first board.entries.items c.settle.new.entries c.in-Some.place
+    c.args.own.span board.account.chunks found.1 (found.2 ∙ span_is) opens joins in
+    let book_is = c.credit.ensures.chunks ∙ ap (λ (s : Span). board.account.chunks + s.count) span_is in
+    let before = of board.entries.items board.account.chunks in
+    let booked = subst (λ (b : ℕ). IsDeposit before c.args.own.span (of c.settle.new.entries b)) (sym book_is) step in
+    let items : (with_items board.entries c.settle.new.entries).items ≡ c.settle.new.entries =
+    with_items_is board.entries c.settle.new.entries
+    (same_length board.entries.items c.settle.new.entries c.in-Some.place opens ∙ sym board.entries.ok.0) in
+    let after = of c.settle.new.entries c.credit.new.self.chunks in
+    let moved = subst (λ (p : Picture Known). IsDeposit p c.args.own.span after) c.self.view_is booked in
+    let P : List Entry → Type 0 =
+    λ es. IsDeposit c.args.self.now c.args.own.span (of es c.credit.new.self.chunks) in
+    subst P (sym items) moved
+
+pub returns-clause-lawful : goal.returns-clause-lawful
+returns-clause-lawful g c =
+    let board = c.self.inside in
+    let l = g.L.Sourced in
+    let found = rw c.as_slice.ensures.value at c.in-Some.ensures.found in
+    let count : sum_by kept_count c.settle.new.entries
+    ≡ sum_by kept_count board.entries.items + (at board.entries.items c.in-Some.place).span.count =
+    search (rules, c.settle.ensures.count, c.as_mut_slice.ensures.value) in
+    let booked : sum_by kept_count c.settle.new.entries ≡ c.credit.new.self.chunks =
+    omega (arith, count, c.self.invariant.booked, c.credit.ensures.chunks, ap (λ (s : Span). s.count) found.2) in
+    let opens : map open_span c.settle.new.entries ≡ set (map open_span board.entries.items) c.in-Some.place None =
+    search (rules, c.settle.ensures.opens, c.as_mut_slice.ensures.value) in
+    let items : (with_items board.entries c.settle.new.entries).items ≡ c.settle.new.entries =
+    with_items_is board.entries c.settle.new.entries
+    (same_length board.entries.items c.settle.new.entries c.in-Some.place opens ∙ sym board.entries.ok.0) in
+    let P : List Entry → Type 0 =
+    λ es. IsLawfulOver l.input (picture_of l.input l.mode l.first es c.credit.new.self.chunks) in
+    subst P (sym items)
+    (lawful_over l.input l.mode l.first c.settle.new.entries c.settle.ensures.lawful l.input
+    c.credit.new.self.chunks booked)
+
+pub settle-requires-clause-top : goal.settle-requires-clause-top
+settle-requires-clause-top g c =
+    let l = g.L.Sourced in
+    let found = rw c.as_slice.ensures.value at c.in-Some.ensures.found in
+    let top : IsNodeOf l.input l.mode l.first (at c.self.inside.entries.items c.in-Some.place).span c.own.inside.node =
+    subst (λ (s : Span). IsNodeOf l.input l.mode l.first s c.own.inside.node) (sym found.2) c.own.invariant.node_is in
+    rw c.as_mut_slice.ensures.value top

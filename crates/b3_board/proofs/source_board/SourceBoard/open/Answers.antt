@@ -1,0 +1,39 @@
+use Rattle.std.proofs.Common.{◌≡◌, [], map, sum_by, sym, subst, ap, ◌∙◌}
+use Rattle.b3_board.specs.Entries.{Lawful, fresh, kept_count, open_spans, pieces}
+use Rattle.b3_board.proofs.Cuttings.{kept_none, lawful_new, open_spans-fresh, pieces-fresh}
+use Rattle.b3_board.proofs.Picturing.{lawful_over}
+use Rattle.b3_board.proofs.source_board.SourceBoard.open.Goals as goal
+
+pub invariant_of-board : goal.invariant_of-board
+invariant_of-board g c =
+    let l = g.L.Sourced in
+    let spans = c.args.spans.now in
+    let items : c.in_ok-entries.entries.items ≡ map fresh spans = c.in_ok-entries.ensures in
+    record {
+      lawful = subst (Lawful l.input l.mode l.first) (sym items)
+          (lawful_new l.input l.mode l.first spans c.requires.cutting);
+      booked = ap (sum_by kept_count) items ∙ kept_none spans ∙ sym c.open-account.ensures.chunks;
+    }
+
+pub returns-clause-board : goal.returns-clause-board
+returns-clause-board g c =
+    let l = g.L.Sourced in
+    let spans = c.args.spans.now in
+    let items : c.in_ok-entries.entries.items ≡ map fresh spans = c.in_ok-entries.ensures in
+    let opens : open_spans c.in_ok-entries.entries.items ≡ spans = ap open_spans items ∙ open_spans-fresh spans in
+    let none : pieces c.in_ok-entries.entries.items ≡ [] = ap pieces items ∙ pieces-fresh spans in
+    (λ i. record {
+      input = l.input;
+      mode = l.mode;
+      first = l.first;
+      open_spans = opens i;
+      pieces = none i;
+      book = c.open-account.ensures.chunks i;
+    })
+
+pub returns-clause-lawful : goal.returns-clause-lawful
+returns-clause-lawful g c =
+    let l = g.L.Sourced in
+    let kept = invariant_of-board g c in
+    lawful_over l.input l.mode l.first c.in_ok-entries.entries.items kept.lawful l.input
+    c.open-account.result.0.chunks kept.booked

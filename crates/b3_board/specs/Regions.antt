@@ -1,0 +1,16 @@
+-- Sources: what is known of a part of one, and of the spans that it is cut into.
+use Rattle.std.specs.Prelude.{◌≡◌, ℕ, List, take, drop, Option}
+use Rattle.std.specs.Option.{option_map}
+use Rattle.b3_core.specs.declared.modes.Mode.{Mode}
+use Rattle.b3_board.specs.Spans.{Known}
+
+-- what is known of the bytes at a place, from what is told of all
+abbrev pub region : Option (List ℕ) → ℕ → ℕ → Known
+region told place len = record { told = option_map (λ all. take len (drop place all)) told; len = len }
+
+-- what is known of an input, its mode and its first chunk are the named ones
+pub record IsNamed (own_input : Known) (own_mode : Mode) (own_first : ℕ) (input : Known) (mode : Mode) (first : ℕ)
+    : Type 0 where
+  pub input_is : input ≡ own_input
+  pub mode_is : mode ≡ own_mode
+  pub first_is : first ≡ own_first
