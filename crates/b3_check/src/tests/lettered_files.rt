@@ -108,8 +108,4 @@ impl Shelf for LetteredFiles<'_> {
         self.rest = &self.rest[count..];
         Ok(count)
     }
-
-    fn may_wait(&self, name: &str) -> bool {
-        name.starts_with("s")
-    }
 }

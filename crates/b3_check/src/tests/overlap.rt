@@ -47,10 +47,6 @@ impl Shelf for CountedShelf<'_> {
         self.rest = &self.rest[count..];
         Ok(count)
     }
-
-    fn may_wait(&self, _name: &str) -> bool {
-        false
-    }
 }
 
 // Holds the first call until there were so many reads, for at most a million turns.
@@ -115,12 +111,6 @@ fn the_next_window_is_read_meanwhile(rt: HostRuntime) -> Result<(), Fail> {
     assert_read_meanwhile(&rt, rt.alloc(), 3_000_000, 34)
 }
 
-// An empty file takes one read.
-#[test]
-fn the_next_name_is_read_meanwhile(rt: HostRuntime) -> Result<(), Fail> {
-    assert_read_meanwhile(&rt, rt.alloc(), 0, 2)
-}
-
 // Fewer than fill a window.
 const READS: u64 = 1_000_000;
 
@@ -156,10 +146,6 @@ impl Shelf for SlowShelf<'_> {
         self.reads += 1;
         room[0] = 0;
         Ok(1)
-    }
-
-    fn may_wait(&self, _name: &str) -> bool {
-        false
     }
 }
 
