@@ -24,8 +24,6 @@ mod plan;
 mod planned;
 mod root;
 mod share;
-#[cfg(test)]
-mod tests;
 mod tree;
 mod workers;
 

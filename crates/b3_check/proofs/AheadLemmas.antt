@@ -1,7 +1,7 @@
 -- What is known of items: taken one by one, and noted one by one.
-use Rattle.std.proofs.Common.{◌≡◌, ◌⊎◌, ℕ, Bool, ◌+◌, ◌<◌, ◌≤◌, suc, zero, List, [], ◌∷◌, ◌++◌, length, map, Option, Some, None, replicate, refl, sym, ◌∙◌, ap, append_assoc, subst, inl, inr, arith}
+use Rattle.std.proofs.Common.{◌≡◌, ℕ, Bool, ◌<◌, ◌≤◌, suc, zero, List, [], ◌∷◌, ◌++◌, length, map, Option, Some, None, refl, sym, ◌∙◌, ap, append_assoc, subst, inl, inr, arith}
 use Rattle.std.proofs.Math.ListN.{set}
-use Rattle.std.specs.Prelude.{MatchOption, slice_index_or, All, IfSome}
+use Rattle.std.specs.Prelude.{slice_index_or, All, IfSome}
 use Rattle.std.proofs.lemmas.List.{get_or-set_same, get_or-set_other, get_or_default, length-set, map-append}
 use Rattle.std.proofs.lemmas.List.Elements.{All-append}
 use Rattle.std.proofs.lemmas.Bool.Decides.{eqb_tells}
@@ -11,7 +11,7 @@ use Rattle.b3_check.specs.declared.ahead.Found.{Found}
 use Rattle.b3_check.specs.declared.items.Item.{Item}
 use Rattle.b3_check.specs.declared.items.Item.TheVariants.{Ask as AskItem}
 use Rattle.b3_check.specs.declared.items.Subject.{Subject}
-use Rattle.b3_check.specs.Ahead.{AreKnown, IsFound, IsKnown, IsNodeOf, tasks_then}
+use Rattle.b3_check.specs.Ahead.{AreKnown, IsFound, IsNodeOf, tasks_then}
 use Rattle.b3_check.specs.declared.hashing.Output.{Output}
 use Rattle.b3_check.specs.Contents.{Contents, HasContent}
 use Rattle.b3_check.specs.Reading.{Digested}
@@ -21,7 +21,6 @@ use Rattle.b3_check.specs.Scripts.Kind.{Hashed}
 use Rattle.b3_core.specs.Output.{output_bytes}
 use Rattle.b3_check.proofs.RunLemmas.{went_nowhere}
 use Rattle.b3_check.specs.Tasks.{Task, name_asked, task_of}
-use Rattle.b3_check.specs.Tasks.Task.{Tell, Find}
 
 pub are_known_none : (told : Option Contents) (mode : Mode) (items : List Item) → AreKnown told mode items []
 are_known_none told mode items = record { few = omega arith; each = λ i d lt. absurd (omega (arith, lt)) }

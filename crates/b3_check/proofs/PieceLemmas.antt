@@ -1,5 +1,5 @@
 -- Pieces of a content: what the next piece adds to those before it.
-use Rattle.std.proofs.Common.{◌≡◌, ℕ, ◌+◌, ◌*◌, ◌/◌, ◌%◌, ◌^◌, ◌<◌, ◌≤◌, ◌++◌, IsTrue, IsSome, List, [], length, take, drop, Option, Result, Ok, Err, refl, sym, ap, ◌∙◌, length-append, arith}
+use Rattle.std.proofs.Common.{◌≡◌, ℕ, ◌+◌, ◌*◌, ◌/◌, ◌%◌, ◌^◌, ◌<◌, ◌≤◌, ◌++◌, IsTrue, IsSome, List, length, take, drop, Option, Result, Ok, Err, sym, ap, ◌∙◌, length-append, arith}
 use Rattle.std.specs.Prelude.{OnOk, is_ok}
 use Rattle.std.proofs.Math.Nat.{add-mod_right}
 use Rattle.std.proofs.Math.Seq.{take-append-add}

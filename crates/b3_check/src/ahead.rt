@@ -19,8 +19,9 @@ use std::sync::atomic::{AtomicUsize, Ordering};
 use std::thread;
 use std::thread::Threads;
 
-/// How many items the first round takes, so that the first line is not long in coming.
-const FIRST_ROUND: usize = 32;
+/// How many items the first round takes: one for each of the most workers, and no more, so that the first line is
+/// not long in coming.
+const FIRST_ROUND: usize = 64;
 
 /// How many items a round takes at most. Each takes twice as many as the one before.
 const MOST_ITEMS: usize = 4_096;
@@ -273,6 +274,9 @@ fn look<R: Threads + Wait + Sync, G: Gate + Sync, S: Shelf + Sync>(
     if items.len() < 2 || hands.len() < 2 {
         return Ok(VecDeque::new(alloc));
     }
+    // Not more hands than items.
+    let count = hands.len().min(items.len());
+    let hands = &mut hands[..count];
     let looked = look_all(crew, hands, shelf, mode, items).min(items.len());
     let mut nodes = nothing_known(alloc, looked)?;
     for hand in hands.iter() {

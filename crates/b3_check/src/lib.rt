@@ -39,6 +39,3 @@ pub use sink::{Sink, SinkFailed};
 pub use sum::run_sum;
 pub use tally::Tally;
 pub use writing::write_all;
-
-#[cfg(test)]
-mod tests;

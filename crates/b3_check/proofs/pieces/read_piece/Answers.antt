@@ -1,4 +1,4 @@
-use Rattle.std.proofs.Common.{◌≡◌, ◌*◌, ◌≤◌, ◌∙◌, IsSome, length, take, drop, ap, sym, arith, rules}
+use Rattle.std.proofs.Common.{◌≡◌, ◌*◌, ◌≤◌, ◌∙◌, length, take, drop, ap, arith, rules}
 use Rattle.std.proofs.lemmas.List.{length-take-le}
 use Rattle.b3_check.specs.declared.pieces.TheConstants.{PIECE_LEN}
 use Rattle.b3_check.proofs.pieces.read_piece.Goals as goal

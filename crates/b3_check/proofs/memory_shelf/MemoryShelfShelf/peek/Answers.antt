@@ -1,4 +1,4 @@
-use Rattle.std.proofs.Common.{◌≡◌, ◌++◌, ℕ, List, [], Option, Some, ap, drop, length, refl, sym, take, ◌∙◌}
+use Rattle.std.proofs.Common.{◌++◌, ℕ, List, [], Option, Some, ap, drop, length, refl, sym, take, ◌∙◌}
 use Rattle.std.proofs.Math.Seq.{take-append_seam}
 use Rattle.std.proofs.lemmas.Option.{slice_get_read}
 use Rattle.std.specs.Option.{option_map_or}

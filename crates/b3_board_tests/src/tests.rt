@@ -1,0 +1,449 @@
+// Boards over small inputs, drawn by hand, what they refuse and keep, and shares.
+
+ghost use Rattle.std.specs.Prelude.{◌≡◌, IfOk, vec_len};
+ghost use Rattle.b3_board.specs.Plans.{IsPlanOf};
+
+mod claims;
+mod hostile;
+mod memory;
+mod plans;
+mod random;
+mod workers;
+
+use b3_board::*;
+use b3_core::{Mode, Node, Span, top};
+use std::alloc::{AllocError, Global};
+use std::marker::Brand;
+use std::process::Abort;
+use std::sync::ledger::{Blank, Ledger};
+use std::test::Fail;
+
+// The bytes of the official test vectors: `i mod 251`.
+fn pattern(alloc: Global, len: usize) -> Result<Vec<u8>, AllocError>
+    ensures { IfOk result (λ v. vec_len v ≡ len) }
+{
+    let mut bytes = Vec::with_capacity(alloc, len)?;
+    for i in 0..len {
+        bytes.push((i % 251) as u8)?;
+    }
+    Ok(bytes)
+}
+
+fn span(first: u64, count: u64) -> Span {
+    Span { first, count }
+}
+
+// The top of the whole input.
+fn root_of(rt: &impl Abort, input: &[u8]) -> Node {
+    assert!(rt; input.len() <= 1 << 30);
+    top(&Mode::hash(), 0, input)
+}
+
+fn assert_pieces<'a, L: Planned>(rt: &impl Abort, board: &Board<'a, L>, want: &[(u64, u64)]) {
+    for i in 0..want.len() {
+        let (first, count) = want[i];
+        assert_eq!(rt; board.piece(i), Some(span(first, count)), "piece {i}");
+    }
+    assert_eq!(rt; board.piece(want.len()), None);
+}
+
+// What a board shows after each deposit: the span's number, the pieces, and the deposited and the waiting
+// chunks.
+#[derive(Drop)]
+struct Step<'s> {
+    span: usize,
+    pieces: &'s [(u64, u64)],
+    deposited: u64,
+    waiting: u64,
+}
+
+fn steps_on<'a, L: Planned>(
+    rt: &impl Abort,
+    alloc: Global,
+    plan: &Plan<'a>,
+    blank: Blank,
+    steps: &[Step],
+) -> Result<(), Fail>
+    requires name { blank.name ≡ L.name }
+    requires parts { blank.parts ≡ L.parts }
+    requires whole { L.parts ≡ 128 }
+    requires own { IsPlanOf L.input L.mode L.first plan.now }
+{
+    let (mut board, mut share) = Board::<'a, L>::new(alloc, plan, blank)?;
+    assert!(rt; board.is_over(plan) && board.deposited() == 0);
+    assert_eq!(rt; board.open_spans(), plan.len());
+    for step in steps {
+        let done = plan.job(step.span).expect(rt, "a job").work();
+        assert!(rt; board.root().is_none());
+        assert!(rt; board.deposit(done, &mut share).is_ok());
+        assert_pieces(rt, &board, step.pieces);
+        assert_eq!(rt; board.deposited(), step.deposited);
+        assert_eq!(rt; board.waiting(), step.waiting);
+        assert_eq!(rt; share.chunks(), step.deposited);
+    }
+    let root = board.root().expect(rt, "a root");
+    assert!(rt; root.kept());
+    assert_eq!(rt; root.node(), root_of(rt, plan.input()));
+    assert_eq!(rt; board.open_span(0), None);
+    Ok(())
+}
+
+fn steps(rt: &impl Abort, alloc: Global, plan: &Plan, steps: &[Step]) -> Result<(), Fail> {
+    steps_on::<Brand>(rt, alloc, plan, Blank::new(128), steps)
+}
+
+#[test]
+fn five_chunks(rt: HostRuntime) -> Result<(), Fail> {
+    let input = pattern(rt.alloc(), 5 * 1024)?;
+    let plan = Plan::new(rt.alloc(), &input, Mode::hash(), 1)?;
+    let rows = [
+        Step {
+            span: 4,
+            pieces: &[(4, 1)],
+            deposited: 1,
+            waiting: 4,
+        },
+        Step {
+            span: 2,
+            pieces: &[(2, 1), (4, 1)],
+            deposited: 2,
+            waiting: 3,
+        },
+        Step {
+            span: 3,
+            pieces: &[(2, 2), (4, 1)],
+            deposited: 3,
+            waiting: 2,
+        },
+        Step {
+            span: 0,
+            pieces: &[(0, 1), (2, 2), (4, 1)],
+            deposited: 4,
+            waiting: 1,
+        },
+        Step {
+            span: 1,
+            pieces: &[(0, 5)],
+            deposited: 5,
+            waiting: 0,
+        },
+    ];
+    steps(&rt, rt.alloc(), &plan, &rows)
+}
+
+#[test]
+fn seven_chunks_in_spans_of_two(rt: HostRuntime) -> Result<(), Fail> {
+    let input = pattern(rt.alloc(), 6 * 1024 + 1)?;
+    let plan = Plan::new(rt.alloc(), &input, Mode::hash(), 2)?;
+    assert_eq!(&rt; plan.span(3), Some(span(6, 1)));
+    let rows = [
+        Step {
+            span: 3,
+            pieces: &[(6, 1)],
+            deposited: 1,
+            waiting: 6,
+        },
+        Step {
+            span: 1,
+            pieces: &[(2, 2), (6, 1)],
+            deposited: 3,
+            waiting: 4,
+        },
+        Step {
+            span: 0,
+            pieces: &[(0, 4), (6, 1)],
+            deposited: 5,
+            waiting: 2,
+        },
+        Step {
+            span: 2,
+            pieces: &[(0, 7)],
+            deposited: 7,
+            waiting: 0,
+        },
+    ];
+    steps(&rt, rt.alloc(), &plan, &rows)
+}
+
+#[test]
+fn six_chunks_by_the_callers_cutting(rt: HostRuntime) -> Result<(), Fail> {
+    let input = pattern(rt.alloc(), 6 * 1024)?;
+    let plan = Plan::cut(rt.alloc(), &input, Mode::hash(), &[span(0, 4), span(4, 2)])?;
+    let rows = [
+        Step {
+            span: 1,
+            pieces: &[(4, 2)],
+            deposited: 2,
+            waiting: 4,
+        },
+        Step {
+            span: 0,
+            pieces: &[(0, 6)],
+            deposited: 6,
+            waiting: 0,
+        },
+    ];
+    steps(&rt, rt.alloc(), &plan, &rows)
+}
+
+// Deposits the spans of the plan in this order, one half as the board's own work, and finds the top.
+fn order_on<'a, L: Planned>(
+    rt: &impl Abort,
+    alloc: Global,
+    plan: &Plan<'a>,
+    blank: Blank,
+    order: &[usize],
+    want: &Node,
+) -> Result<(), Fail>
+    requires name { blank.name ≡ L.name }
+    requires parts { blank.parts ≡ L.parts }
+    requires whole { L.parts ≡ 128 }
+    requires own { IsPlanOf L.input L.mode L.first plan.now }
+{
+    let (mut board, mut share) = Board::<'a, L>::new(alloc, plan, blank)?;
+    for i in order {
+        if *i % 2 == 0 {
+            let done = plan.job(*i).expect(rt, "a job").work();
+            assert!(rt; board.deposit(done, &mut share).is_ok());
+        } else {
+            let own = plan.own_job::<L>(*i).expect(rt, "a job").work();
+            assert!(rt; board.deposit_own(own, &mut share).is_ok());
+        }
+    }
+    assert_eq!(rt; board.root().expect(rt, "a root").node(), *want);
+    assert_eq!(rt; share.chunks(), board.deposited());
+    assert_eq!(rt; board.sweep(&mut share), 0);
+    Ok(())
+}
+
+fn in_order(
+    rt: &impl Abort,
+    alloc: Global,
+    plan: &Plan,
+    order: &[usize],
+    want: &Node,
+) -> Result<(), Fail> {
+    order_on::<Brand>(rt, alloc, plan, Blank::new(128), order, want)
+}
+
+#[test]
+fn each_order_of_five_chunks(rt: HostRuntime) -> Result<(), Fail> {
+    let alloc = rt.alloc();
+    let input = pattern(alloc, 4 * 1024 + 7)?;
+    let plan = Plan::new(alloc, &input, Mode::hash(), 1)?;
+    let want = root_of(&rt, &input);
+    for code in 0..120usize {
+        let mut rest = code;
+        let mut left_over = Vec::from_array(alloc, [0usize, 1, 2, 3, 4])?;
+        let mut order = Vec::with_capacity(alloc, 5)?;
+        for choices in [5usize, 4, 3, 2, 1] {
+            let choice = rest % choices;
+            rest /= choices;
+            assert!(&rt; choice < left_over.len());
+            order.push(left_over.remove(choice))?;
+        }
+        in_order(&rt, alloc, &plan, &order, &want)?;
+    }
+    Ok(())
+}
+
+// Work of a plan that the board is not over is refused, and handed back.
+fn assert_stranger<'a, L: Planned>(
+    rt: &impl Abort,
+    board: &mut Board<'a, L>,
+    share: &mut Share<L>,
+    stranger: &Plan<'a>,
+) {
+    let done = stranger.job(3).expect(rt, "a job").work();
+    let node = done.node();
+    match board.deposit(done, share) {
+        Err(Refused::OtherBytes(back)) => assert_eq!(rt; back.node(), node),
+        _ => assert!(rt; false, "a stranger was not refused"),
+    }
+    assert!(rt; !board.is_over(stranger));
+}
+
+fn refusals_on<'a, L: Planned>(
+    rt: &impl Abort,
+    alloc: Global,
+    plan: &Plan<'a>,
+    other: &Plan<'a>,
+    keyed: &Plan<'a>,
+    later: &Plan<'a>,
+    blank: Blank,
+) -> Result<(), Fail>
+    requires name { blank.name ≡ L.name }
+    requires parts { blank.parts ≡ L.parts }
+    requires whole { L.parts ≡ 128 }
+    requires own { IsPlanOf L.input L.mode L.first plan.now }
+{
+    let (mut board, mut share) = Board::<'a, L>::new(alloc, plan, blank)?;
+    let done = plan.job(2).expect(rt, "a job").work();
+    assert!(rt; board.deposit(done, &mut share).is_ok());
+    let double = plan.job(2).expect(rt, "a job").work();
+    match board.deposit(double, &mut share) {
+        Err(Refused::NotOpen(back)) => assert_eq!(rt; back.span(), span(2, 1)),
+        _ => assert!(rt; false, "a double was not refused"),
+    }
+    let own = plan.own_job::<L>(2).expect(rt, "a job").work();
+    assert!(rt; board.deposit_own(own, &mut share).is_err());
+    assert_stranger(rt, &mut board, &mut share, other);
+    assert_stranger(rt, &mut board, &mut share, keyed);
+    assert_stranger(rt, &mut board, &mut share, later);
+    assert_eq!(rt; board.open_span(2), Some(span(3, 1)));
+    assert_eq!(rt;
+        (board.deposited(), board.waiting(), share.chunks()),
+        (1, 4, 1)
+    );
+    Ok(())
+}
+
+fn refusals(
+    rt: &impl Abort,
+    alloc: Global,
+    plan: &Plan,
+    other: &Plan,
+    keyed: &Plan,
+    later: &Plan,
+) -> Result<(), Fail> {
+    refusals_on::<Brand>(rt, alloc, plan, other, keyed, later, Blank::new(128))
+}
+
+#[test]
+fn doubles_and_strangers(rt: HostRuntime) -> Result<(), Fail> {
+    let alloc = rt.alloc();
+    let input = pattern(alloc, 5 * 1024)?;
+    let zeros = vec![in alloc; 0; 5 * 1024]?;
+    let plan = Plan::new(alloc, &input, Mode::hash(), 1)?;
+    let other = Plan::new(alloc, &zeros, Mode::hash(), 1)?;
+    let keyed = Plan::new(alloc, &input, Mode::keyed(&[7; 32]), 1)?;
+    let later = Plan::at(alloc, &input, Mode::hash(), 16, 1)?;
+    refusals(&rt, alloc, &plan, &other, &keyed, &later)
+}
+
+fn kept_on<'a, L: Planned>(
+    rt: &impl Abort,
+    alloc: Global,
+    plan: &Plan<'a>,
+    blank: Blank,
+) -> Result<(), Fail>
+    requires name { blank.name ≡ L.name }
+    requires parts { blank.parts ≡ L.parts }
+    requires whole { L.parts ≡ 128 }
+    requires own { IsPlanOf L.input L.mode L.first plan.now }
+{
+    let (mut board, mut share) = Board::<'a, L>::new(alloc, plan, blank)?;
+    for i in 0..plan.len() {
+        let own = plan.own_job::<L>(i).expect(rt, "a job").work();
+        assert!(rt; board.deposit_own(own, &mut share).is_ok());
+    }
+    let want = root_of(rt, plan.input());
+    for _ in 0..1_000_000usize {
+        assert_eq!(rt; board.root().expect(rt, "a root").node(), want);
+        assert_eq!(rt; board.sweep(&mut share), 0);
+    }
+    Ok(())
+}
+
+fn kept(rt: &impl Abort, alloc: Global, plan: &Plan) -> Result<(), Fail> {
+    kept_on::<Brand>(rt, alloc, plan, Blank::new(128))
+}
+
+// A body that hashed again would not come to the end.
+#[test]
+fn kept_nodes(rt: HostRuntime) -> Result<(), Fail> {
+    let input = pattern(rt.alloc(), 1 << 24)?;
+    let plan = Plan::new(rt.alloc(), &input, Mode::hash(), 1024)?;
+    kept(&rt, rt.alloc(), &plan)
+}
+
+#[test]
+fn a_plain_root_is_not_kept(rt: HostRuntime) -> Result<(), Fail> {
+    let input = pattern(rt.alloc(), 1024)?;
+    let plan = Plan::new(rt.alloc(), &input, Mode::hash(), 1)?;
+    let plain = plan.plain();
+    assert!(&rt; !plain.kept());
+    assert_eq!(&rt; plain.node(), root_of(&rt, &input));
+    let later = Plan::at(rt.alloc(), &[7], Mode::hash(), 16384, 1)?;
+    let node = later.plain().node();
+    assert_eq!(&rt; (node.t, node.b, node.d), (16384, 1, 3));
+    Ok(())
+}
+
+fn shares_on<'a, L: Planned>(
+    rt: &impl Abort,
+    alloc: Global,
+    plan: &Plan<'a>,
+    blank: Blank,
+) -> Result<(), Fail>
+    requires name { blank.name ≡ L.name }
+    requires parts { blank.parts ≡ L.parts }
+    requires whole { L.parts ≡ 128 }
+    requires own { IsPlanOf L.input L.mode L.first plan.now }
+{
+    let (mut board, mut all) = Board::<'a, L>::new(alloc, plan, blank)?;
+    assert_eq!(rt; (all.parts(), all.chunks()), (128, 0));
+    let mut one = all.split();
+    assert_eq!(rt; (all.parts(), one.parts(), one.chunks()), (127, 1, 0));
+    let own = plan.own_job::<L>(0).expect(rt, "a job").work();
+    assert!(rt; board.deposit_own(own, &mut one).is_ok());
+    assert_eq!(rt; board.sweep(&mut all), 4);
+    assert_eq!(rt; (one.chunks(), all.chunks()), (1, 4));
+    assert!(rt; one.chunks() <= 5 && all.chunks() <= 5);
+    all.join(one);
+    assert!(rt; all.parts() == 128);
+    board.audit(&mut all);
+    assert_eq!(rt; all.chunks(), board.deposited());
+    Ok(())
+}
+
+fn shares(rt: &impl Abort, alloc: Global, plan: &Plan) -> Result<(), Fail> {
+    shares_on::<Brand>(rt, alloc, plan, Blank::new(128))
+}
+
+#[test]
+fn shares_split_and_joined(rt: HostRuntime) -> Result<(), Fail> {
+    let input = pattern(rt.alloc(), 5 * 1024)?;
+    let plan = Plan::new(rt.alloc(), &input, Mode::hash(), 1)?;
+    shares(&rt, rt.alloc(), &plan)
+}
+
+// A share that is dropped takes its part and its chunks with it; the board has them all the same.
+fn dropped_on<'a, L: Planned>(
+    rt: &impl Abort,
+    alloc: Global,
+    plan: &Plan<'a>,
+    blank: Blank,
+) -> Result<(), Fail>
+    requires name { blank.name ≡ L.name }
+    requires parts { blank.parts ≡ L.parts }
+    requires whole { L.parts ≡ 128 }
+    requires own { IsPlanOf L.input L.mode L.first plan.now }
+{
+    let (mut board, mut left) = Board::<'a, L>::new(alloc, plan, blank)?;
+    let mut dropped = left.split();
+    let own = plan.own_job::<L>(0).expect(rt, "a job").work();
+    assert!(rt; board.deposit_own(own, &mut dropped).is_ok());
+    drop(dropped);
+    assert_eq!(rt; board.sweep(&mut left), 4);
+    assert_eq!(rt;
+        (left.parts(), left.chunks(), board.deposited()),
+        (127, 4, 5)
+    );
+    assert_eq!(rt;
+        board.root().expect(rt, "a root").node(),
+        root_of(rt, plan.input())
+    );
+    Ok(())
+}
+
+fn dropped(rt: &impl Abort, alloc: Global, plan: &Plan) -> Result<(), Fail> {
+    dropped_on::<Brand>(rt, alloc, plan, Blank::new(128))
+}
+
+#[test]
+fn a_share_that_is_dropped(rt: HostRuntime) -> Result<(), Fail> {
+    let input = pattern(rt.alloc(), 5 * 1024)?;
+    let plan = Plan::new(rt.alloc(), &input, Mode::hash(), 1)?;
+    dropped(&rt, rt.alloc(), &plan)
+}

@@ -1,0 +1,141 @@
+// Claims by several seats, one after the other and in two threads.
+
+ghost use Rattle.std.specs.Prelude.{◌≡◌, ◌<◌, ◌≤◌};
+ghost use Rattle.b3_board.specs.Seats.{HasSeenAll, IsSeatOf};
+
+use super::memory::last_growth;
+use arrayvec::ArrayVec;
+use b3_board::{BoardFault, Claims, Gate, OpenGate, Seat};
+use std::alloc::Global;
+use std::process::Abort;
+use std::test::Fail;
+use std::thread;
+use std::thread::Threads;
+
+#[test]
+fn three_seats_claim_in_turn(rt: HostRuntime) -> Result<(), Fail> {
+    let (claims, mut first) = Claims::new(rt.alloc(), 3)?;
+    assert!(&rt; first.parts() == 128 && first.claimed().is_empty());
+    let mut second = claims.split(&mut first);
+    let mut third = claims.split(&mut first);
+    assert_eq!(&rt; (first.parts(), second.parts(), third.parts()), (126, 1, 1));
+    assert!(&rt; claims.try_claim(&mut second, 2));
+    assert!(&rt; !claims.try_claim(&mut second, 2));
+    assert_eq!(&rt; second.claimed(), [2u32].as_slice());
+    assert!(&rt; !claims.try_claim(&mut third, 2));
+    assert!(&rt; claims.try_claim(&mut third, 0));
+    assert_eq!(&rt; third.claimed(), [0u32].as_slice());
+    assert!(&rt; claims.try_claim(&mut first, 1));
+    assert_eq!(&rt; first.claimed(), [1u32].as_slice());
+    claims.join(&mut first, second);
+    claims.join(&mut first, third);
+    assert_eq!(&rt;
+        (first.parts(), first.claimed()),
+        (128, [1u32, 2, 0].as_slice())
+    );
+    assert_eq!(&rt; claims.close(first).as_slice(), [1u32, 2, 0].as_slice());
+    Ok(())
+}
+
+#[test]
+fn two_seats_claim_in_turn(rt: HostRuntime) -> Result<(), Fail> {
+    let (claims, mut first) = Claims::new(rt.alloc(), 3)?;
+    let mut second = claims.split(&mut first);
+    assert!(&rt; claims.try_claim(&mut first, 0) && !claims.try_claim(&mut second, 0));
+    assert!(&rt; claims.try_claim(&mut second, 1) && !claims.try_claim(&mut first, 1));
+    assert!(&rt; claims.try_claim(&mut first, 2) && !claims.try_claim(&mut second, 2));
+    claims.join(&mut first, second);
+    assert_eq!(&rt; claims.close(first).as_slice(), [0u32, 2, 1].as_slice());
+    Ok(())
+}
+
+// A seat that is dropped takes its part with it: the others claim on, and nothing can be closed.
+#[test]
+fn a_seat_that_is_dropped(rt: HostRuntime) -> Result<(), Fail> {
+    let (claims, mut first) = Claims::new(rt.alloc(), 2)?;
+    let mut dropped = claims.split(&mut first);
+    assert!(&rt; claims.try_claim(&mut dropped, 0));
+    drop(dropped);
+    assert_eq!(&rt; first.parts(), 127);
+    assert!(&rt; !claims.try_claim(&mut first, 0) && claims.try_claim(&mut first, 1));
+    let mut second = claims.split(&mut first);
+    assert!(&rt; !claims.try_claim(&mut second, 0) && !claims.try_claim(&mut second, 1));
+    claims.join(&mut first, second);
+    assert_eq!(&rt; (first.parts(), first.claimed()), (127, [1u32].as_slice()));
+    Ok(())
+}
+
+fn claim_all(claims: &Claims, mut seat: Seat, n: usize) -> Seat
+    requires count { claims.now.count ≡ n }
+    requires own { IsSeatOf claims.now seat }
+    ensures own { IsSeatOf claims.now result }
+    ensures parts { result.view.parts ≡ seat.view.parts }
+{
+    for i in 0..n {
+        claims.try_claim(&mut seat, i);
+    }
+    seat
+}
+
+// Two threads try each index.
+fn race(rt: &impl Threads, alloc: Global, n: usize) -> Result<ArrayVec<u32, 1024>, BoardFault>
+    requires { (1 ≤ n) × (n ≤ 1024) }
+{
+    let (claims, mut first) = Claims::new(alloc, n)?;
+    let second = claims.split(&mut first);
+    let (mut one, other) = thread::join(
+        rt,
+        || claim_all(&claims, first, n),
+        || claim_all(&claims, second, n),
+    );
+    claims.join(&mut one, other);
+    Ok(claims.close(one))
+}
+
+fn assert_all_once(rt: &impl Abort, mut list: ArrayVec<u32, 1024>, n: usize) {
+    list.as_mut_slice().sort_unstable();
+    assert_eq!(rt; list.len(), n);
+    for (i, x) in list.iter().enumerate() {
+        assert_eq!(rt; *x as usize, i);
+    }
+}
+
+#[test]
+fn claims_race(rt: HostRuntime) -> Result<(), Fail> {
+    assert_all_once(&rt, race(&rt, rt.alloc(), 1024)?, 1024);
+    for _ in 0..1000usize {
+        assert_all_once(&rt, race(&rt, rt.alloc(), 64)?, 64);
+    }
+    Ok(())
+}
+
+// The growth may be refused: what is asserted holds all the same.
+#[test]
+fn a_refused_growth_makes_no_claims(rt: HostRuntime) {
+    match Claims::new(rt.alloc(), 1024) {
+        Ok((_claims, first)) => assert_eq!(&rt; first.parts(), 128),
+        Err(fault) => assert_eq!(&rt; fault, BoardFault::Memory),
+    }
+    assert!(&rt;
+        last_growth(rt.alloc()).is_ok(),
+        "refused behind the last call"
+    );
+}
+
+// A gate that does not say whether it holds a worker.
+struct SilentGate;
+
+impl Gate for SilentGate {
+    fn pass(&self, _worker: usize, _span: usize) {}
+}
+
+fn assert_gate<G: Gate>(rt: &impl Abort, gate: &G, may_hold: bool) {
+    gate.pass(0, 1);
+    assert_eq!(rt; gate.may_hold(), may_hold);
+}
+
+#[test]
+fn gates_that_hold_and_do_not(rt: HostRuntime) {
+    assert_gate(&rt, &OpenGate, false);
+    assert_gate(&rt, &SilentGate, true);
+}

@@ -1,0 +1,100 @@
+// Inputs that are cut and deposited at random.
+
+ghost use Rattle.std.specs.Prelude.{◌<◌};
+
+use super::{in_order, pattern, root_of, span};
+use b3_board::Plan;
+use b3_core::{Mode, Span, left};
+use std::alloc::{AllocError, Global};
+use std::process::Abort;
+use std::test::Fail;
+
+// A row of numbers that look like chance.
+#[derive(Drop)]
+pub struct Chance {
+    pub state: u64,
+}
+
+impl Chance {
+    // The next number below `bound`.
+    pub fn below(&mut self, bound: u64) -> u64
+        requires { 0 < bound }
+        ensures { result < bound }
+    {
+        self.state = self
+            .state
+            .wrapping_mul(6364136223846793005)
+            .wrapping_add(1442695040888963407);
+        (self.state >> 33) % bound
+    }
+}
+
+// Cuts a subtree into smaller ones, as chance has it: one in `whole` is not cut further.
+pub fn cut_at_random(
+    rt: &impl Abort,
+    alloc: Global,
+    chance: &mut Chance,
+    n: u64,
+    whole: u64,
+) -> Result<Vec<Span>, AllocError>
+    requires { 0 < whole }
+{
+    let mut cutting = Vec::new(alloc);
+    let mut rest = Vec::new(alloc);
+    rest.push(span(0, n))?;
+    for _ in 0..4096usize {
+        let Some(next) = rest.pop() else {
+            break;
+        };
+        if next.count > 1 && chance.below(whole) > 0 {
+            let count = left(next.count);
+            assert!(rt; next.first < 1 << 20 && count < next.count && next.count <= 1 << 20);
+            rest.push(span(next.first + count, next.count - count))?;
+            rest.push(span(next.first, count))?;
+        } else {
+            cutting.push(next)?;
+        }
+    }
+    Ok(cutting)
+}
+
+// A length, and one in how many subtrees is not cut further. The first turn has 1,024 spans; of the others most
+// are small, so that the test ends soon however it is compiled.
+fn lengths_at_random(chance: &mut Chance, turn: usize) -> (usize, u64)
+    ensures whole { 0 < result.1 }
+{
+    if turn == 0 {
+        return (1 << 20, 1 << 32);
+    }
+    let greatest = if turn % 100 == 0 { 1 << 20 } else { 1 << 15 };
+    let most = 1 + chance.below(greatest);
+    let bound = 1 + chance.below(most);
+    (1 + chance.below(bound) as usize, 8)
+}
+
+#[test]
+fn random_cuttings_and_orders(rt: HostRuntime) -> Result<(), Fail> {
+    let alloc = rt.alloc();
+    let input = pattern(alloc, 1024 * 1024)?;
+    let mut chance = Chance { state: 1 };
+    for turn in 0..1000usize {
+        let (len, whole) = lengths_at_random(&mut chance, turn);
+        assert!(&rt; len <= input.len());
+        let part = &input[..len];
+        let n = b3_core::chunks(len as u64);
+        let cutting = cut_at_random(&rt, alloc, &mut chance, n, whole)?;
+        let plan = Plan::cut(alloc, part, Mode::hash(), &cutting)?;
+        assert!(&rt; turn > 0 || plan.len() == 1024);
+        let mut order = Vec::with_capacity(alloc, plan.len())?;
+        for i in 0..plan.len() {
+            order.push(i)?;
+        }
+        for i in 0..order.len() {
+            let other = chance.below(i as u64 + 1) as usize;
+            assert!(&rt; other < order.len());
+            order.swap(i, other);
+        }
+        in_order(&rt, alloc, &plan, &order, &root_of(&rt, part))?;
+    }
+    Ok(())
+}

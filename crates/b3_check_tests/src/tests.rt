@@ -1,0 +1,106 @@
+// What runs write and count, over devices in memory and devices that take few bytes a call.
+
+ghost use Rattle.std.specs.Prelude.{◌≡◌, ◌^◌, ◌≤◌};
+ghost use Rattle.b3_check.specs.Options.{CanCheck, CanRun};
+
+mod beside;
+mod checks;
+mod devices;
+mod faults;
+mod faulty_files;
+mod in_order;
+mod lettered_files;
+mod memory;
+mod pieces;
+mod plain_lines;
+mod random;
+mod recording;
+mod report;
+mod slow_names;
+mod sums;
+mod windows;
+mod workers;
+
+use b3_check::{CheckOptions, Form, KeyChoice, RunFault, SumOptions, Tally};
+use std::alloc::Global;
+use std::test::Fail;
+
+// The digest of no bytes, and the keyed one of the key below.
+const EMPTY: &str = "af1349b9f5f9a1a6a0404dea36dcc9499bcb25c9adc112b7cc9a93cae41f3262";
+
+const KEY: &[u8] = b"whats the Elvish word for friend";
+
+const KEYED_EMPTY: &str = "92b2b75604ed3c761f9d6f62392c8a9227ad0ea3f09573e783f1498a4ed60d26";
+
+// The digest of one byte 00.
+const ONE_BYTE: &str = "2d3adedff11b61f14c886e35afa036736dcd87a74d27b5c1510225d0f592e213";
+
+const fn tally(ok: u64, failed: u64, lists: u64) -> Tally {
+    Tally { ok, failed, lists }
+}
+
+// A check line of 32 bytes, without a key.
+fn options(turns: u64, largest: u64) -> SumOptions
+    requires turns { (1 ≤ turns) × (turns ≤ 2 ^ 40) }
+    requires largest { largest ≤ 2 ^ 30 }
+    ensures can_run { CanRun result }
+    ensures seek { result.seek ≡ 0 }
+    ensures form { result.form ≡ Form.Named }
+{
+    SumOptions {
+        key: KeyChoice::Plain,
+        seek: 0,
+        length: 32,
+        form: Form::Named,
+        workers: 4,
+        turns,
+        largest,
+    }
+}
+
+fn check_options(quiet: bool, largest: u64) -> CheckOptions
+    requires { largest ≤ 2 ^ 30 }
+    ensures { CanCheck result }
+{
+    CheckOptions {
+        quiet,
+        workers: 4,
+        turns: 1_000,
+        largest,
+    }
+}
+
+// The bytes 0 to 250, over and over.
+fn pattern(alloc: Global, count: u64) -> Result<Vec<u8>, Fail> {
+    let mut bytes = Vec::new(alloc);
+    for k in 0..count {
+        bytes.push((k % 251) as u8)?;
+    }
+    Ok(bytes)
+}
+
+// These pieces, one after the other.
+fn joined(alloc: Global, pieces: &[&str]) -> Result<String, Fail> {
+    let mut text = String::new(alloc);
+    for piece in pieces {
+        text.push_str(piece)?;
+    }
+    Ok(text)
+}
+
+#[test]
+fn each_fault_has_its_text_and_number(rt: HostRuntime) -> Result<(), Fail> {
+    let table = [
+        (RunFault::ReadFault, 1, "b3sum: cannot read the key"),
+        (RunFault::WriteFault, 2, "b3sum: cannot write"),
+        (RunFault::Memory, 3, "b3sum: out of memory"),
+        (RunFault::BadKey, 4, "b3sum: the key is not 32 bytes"),
+        (RunFault::EndlessInput, 5, "b3sum: endless input"),
+    ];
+    for (fault, number, text) in table {
+        assert_eq!(rt; fault as u8, number);
+        assert_eq!(rt; fault.text(), text);
+        assert_eq!(rt; fault.to_string(rt.alloc())?.as_str(), text);
+    }
+    Ok(())
+}
