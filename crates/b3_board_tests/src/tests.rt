@@ -6,6 +6,7 @@ ghost use Rattle.b3_board.specs.Plans.{IsPlanOf};
 mod claims;
 mod hostile;
 mod memory;
+mod open_runs;
 mod plans;
 mod random;
 mod workers;

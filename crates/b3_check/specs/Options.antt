@@ -1,19 +1,18 @@
 -- Which options a run may be made with, and what they say.
 use Rattle.std.specs.Prelude.{ℕ, ◌+◌, ◌-◌, ◌^◌, ◌≤◌}
-use Rattle.b3_check.specs.declared.options.TheConstants.{MAX_OUTPUT_LEN, MAX_WORKERS}
 use Rattle.b3_check.specs.declared.options.CheckOptions.{CheckOptions}
 use Rattle.b3_check.specs.declared.options.Limits.{Limits}
 use Rattle.b3_check.specs.declared.options.SumOptions.{SumOptions}
 
 -- a run may hash with so many workers, let a file take so many reads, and a list have so many bytes
 pub record AreBounds (workers turns largest : ℕ) : Type 0 where
-  pub some_workers : (1 ≤ workers) × (workers ≤ MAX_WORKERS)
+  pub some_workers : (1 ≤ workers) × (workers ≤ 64)
   pub some_turns : (1 ≤ turns) × (turns ≤ 2 ^ 40)
   pub fits : largest ≤ 2 ^ 30
 
 -- names may be summed with these options
 pub record CanRun (options : SumOptions) : Type 0 where
-  pub length : options.length ≤ MAX_OUTPUT_LEN
+  pub length : options.length ≤ 1048576
   pub in_output : options.seek + options.length ≤ 2 ^ 64 - 1
   pub bounds : AreBounds options.workers options.turns options.largest
 

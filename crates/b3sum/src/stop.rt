@@ -40,7 +40,7 @@ impl Stop {
         if error.kind() == ErrorKind::OutOfMemory {
             return Stop::Memory;
         }
-        match format!(in alloc; "{error}") {
+        match text_of(alloc, error) {
             Ok(text) if error.use_stderr() => Stop::Refused(text),
             Ok(text) => Stop::Asked(text),
             Err(AllocError) => Stop::Memory,
@@ -80,6 +80,20 @@ impl Stop {
             }
         }
     }
+}
+
+// The text of a fault, without the tips, and of help or version. A tip guesses by letters alone: of `-1` it makes the
+// name of a file, and of another program's option one of this program's.
+fn text_of(alloc: Global, error: &clap::Error) -> Result<String, AllocError> {
+    let text = format!(in alloc; "{error}")?;
+    let Some((fault, tips)) = text.as_str().split_once("\n\n  tip:") else {
+        return Ok(text);
+    };
+    let help = match tips.rsplit_once("\n\n") {
+        Some((_usage, help)) => help,
+        None => "",
+    };
+    format!(in alloc; "{fault}\n\n{help}")
 }
 
 impl From<AllocError> for Stop {

@@ -7,7 +7,7 @@ ghost use Rattle.b3sum.specs.Usages.{excluded_by_check, excluded_by_tag, first_g
 
 use crate::usage::Usage;
 use crate::words::Words;
-use b3_check::{CheckOptions, Form, KeyChoice, SumOptions};
+use b3_check::{CheckOptions, Form, KeyChoice, MAX_WORKERS, SumOptions};
 
 /// The number of output bytes where no word says another.
 const DEFAULT_LENGTH: u32 = 32;
@@ -17,8 +17,6 @@ const DEFAULT_SEEK: u64 = 0;
 
 /// The number of threads where no word says another.
 const DEFAULT_THREADS: u32 = 4;
-
-const MAX_THREADS: u32 = 64;
 
 /// How many reads a file may take.
 const TURNS: u64 = 1 << 40;
@@ -51,7 +49,7 @@ pub fn settle(words: Words) -> Result<Task, Usage>
     })
 }
 
-// The first refusal that holds of the words.
+// The first refusal that holds of the words, in the order of `refusal_for`, which decides.
 fn refusal(words: &Words) -> Option<Usage>
     ensures { option_map refusal_of result ≡ refusal_for words.now }
 {
@@ -212,6 +210,6 @@ fn workers(threads: Option<u16>) -> u32
 {
     match threads {
         None | Some(0) => DEFAULT_THREADS,
-        Some(threads) => u32::from(threads).min(MAX_THREADS),
+        Some(threads) => u32::from(threads).min(MAX_WORKERS),
     }
 }

@@ -2,7 +2,6 @@
 
 ghost use Rattle.std.specs.Prelude.{◌≤◌, ◌^◌, vec_len};
 ghost use Rattle.std.specs.Option.{ForSome};
-ghost use Rattle.b3_check.specs.declared.options.TheConstants.{MAX_OUTPUT_LEN};
 
 use crate::command::command;
 use crate::stop::Stop;
@@ -38,7 +37,7 @@ pub struct Words {
     pub num_threads: Option<u16>,
     /// The files, as they were given.
     pub files: Vec<String>,
-    ghost length_in_range: { ForSome length (λ n. n ≤ MAX_OUTPUT_LEN) },
+    ghost length_in_range: { ForSome length (λ n. n ≤ 1048576) },
     ghost files_in_range: { vec_len files ≤ 2 ^ 30 },
 }
 

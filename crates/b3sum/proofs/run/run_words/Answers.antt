@@ -5,7 +5,6 @@ use Rattle.std.proofs.lemmas.Bool.{cond_both, eqb-false, ltb-false}
 use Rattle.b3_check.specs.Options.{AreBounds}
 use Rattle.b3_check.specs.declared.options.Form.{Form}
 use Rattle.b3_check.specs.declared.options.Form.TheVariants.{Named, Bare, Raw, Tagged}
-use Rattle.b3_check.specs.declared.options.TheConstants.{MAX_OUTPUT_LEN}
 use Rattle.b3sum.specs.Programs.{CanDo, names_of}
 use Rattle.b3sum.specs.Tasks.{check_options, sum_options, task_for, workers_of}
 use Rattle.b3sum.specs.declared.task.Task.TheVariants.{Sum, Check}
@@ -26,7 +25,7 @@ bounds : (n : Option ℕ) → AreBounds (workers_of n) (2 ^ 40) (2 ^ 30)
 bounds n = record { some_workers = workers-bounds n; some_turns = (omega arith, omega arith); fits = omega arith }
 
 -- how long an output is
-length-bound : (o : Option ℕ) → ((n : ℕ) → o ≡ Some n → n ≤ MAX_OUTPUT_LEN) → unwrap_or o 32 ≤ MAX_OUTPUT_LEN
+length-bound : (o : Option ℕ) → ((n : ℕ) → o ≡ Some n → n ≤ 1048576) → unwrap_or o 32 ≤ 1048576
 length-bound None within = omega arith
 length-bound (Some n) within = within n refl
 
