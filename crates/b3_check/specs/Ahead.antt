@@ -21,7 +21,8 @@ IsKnown told mode (Tell said) known = ⊤
 IsKnown told mode (Find name says) known = IfSome known (IsNodeOf told mode name)
 
 -- so of the first items, each with its node
-pub record AreKnown (told : Option Contents) (mode : Mode) (items : List Item) (nodes : List (Option Node)) : Type 0 where
+pub record AreKnown (told : Option Contents) (mode : Mode) (items : List Item)
+    (nodes : List (Option Node)) : Type 0 where
   pub few : length nodes ≤ length items
   pub each : (i : ℕ) (d : Item) → i < length nodes
       → IsKnown told mode (task_of (slice_index_or items i d)) (slice_index_or nodes i None)

@@ -304,7 +304,8 @@ fn look_all<R: Threads + Wait + Sync, G: Gate + Sync, S: Shelf + Sync>(
         hands,
         threads,
         &|_, hand: &mut Hand|
-            ensures { All (IsFound (S.told shelf.entry.now) mode.entry.now items.entry.now.items) hand.exit.now.found.items }
+            ensures { All (IsFound (S.told shelf.entry.now) mode.entry.now items.entry.now.items)
+                hand.exit.now.found.items }
         { hand.look(shelf, mode, items, &taken, &hashed) },
     );
     taken.load(Ordering::Relaxed)

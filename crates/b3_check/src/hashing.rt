@@ -210,7 +210,10 @@ impl Digester {
         requires whole { length_of hasher.now % 1024 ≡ 0 }
         requires fits { length_of hasher.now ≤ 2 ^ 60 }
         ensures output { IfOk result (λ output. (before : List ℕ) → StandsFor hasher.now before
-            → output ≡ record { node = top self.now.output.mode 0 (before ++ filled_bytes self.now.window); place = 0 }) }
+            → output ≡ record {
+              node = top self.now.output.mode 0 (before ++ filled_bytes self.now.window);
+              place = 0;
+            }) }
         ensures fault { IfErr result (λ fault. fault ≡ RunFault.Memory) }
     {
         if self.window.is_empty() {

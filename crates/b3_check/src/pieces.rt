@@ -222,7 +222,8 @@ fn run_round<R: Threads + Wait + Sync, G: Gate + Sync, S: Shelf + Send + Sync>(
         threads,
         &|_number, hand: &mut Hand|
             requires { end ≤ MOST_PIECES }
-            ensures { All (IsPieceOf (S.told shelf.entry.now) (S.left shelf.entry.now) mode.entry.now) hand.exit.now.done.items }
+            ensures { All (IsPieceOf (S.told shelf.entry.now) (S.left shelf.entry.now) mode.entry.now)
+                hand.exit.now.done.items }
         { work(shelf, mode, hand, end, &next) },
     );
 }

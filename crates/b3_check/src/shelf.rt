@@ -50,9 +50,9 @@ pub trait Shelf {
         ensures told { told self.new ≡ told self.old }
         ensures still_sure { is_sure self.new ≡ is_sure self.old };
 
-    /// Copies the whole content of a name to the front of `room`, and answers how many bytes it has. Else it answers
-    /// how much room might do, or 0: there is no plain file of this name, or none that is soon read. It changes nothing,
-    /// so that many threads may ask at once.
+    /// Copies the whole content of a name to the front of `room`, and answers how many bytes it has. Else it
+    /// answers how much room might do, or 0: there is no plain file of this name, or none that is soon read. It
+    /// changes nothing, so that many threads may ask at once.
     fn peek(&self, _name: &str, _room: &mut [u8]) -> Result<usize, usize>
         ensures within { IfOk result (λ n. n ≤ length _room.old) }
         ensures content { IfOk result (λ n. HasContent (told self.now) _name.now (take n _room.new)) }

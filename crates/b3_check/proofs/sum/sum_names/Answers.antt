@@ -46,8 +46,9 @@ pub run-requires : goal.run-requires
 run-requires g c = λ _.
     let names = c.args.names.now in
     let seen = scene_of g.S.Shelf g.O.Sink g.E.Sink in
+    let found = c.in_ok-mode.ensures.found in
     let room : HasRoom (seen c.find_mode.new.desk) (length names) =
-    mode_room c.args.options.now.key c.in_ok-mode.mode _ _ (length names) c.in_ok-mode.ensures.found c.requires.room in (
+    mode_room c.args.options.now.key c.in_ok-mode.mode _ _ (length names) found c.requires.room in (
       c.type_bounds.send-S,
       (
         c.type_bounds.sync-R,

@@ -7,4 +7,5 @@ loop-preserved g c =
     let items = c.args.items.now.items in
     let node = rw c.name.ensures at c.in-Some-node_of.ensures.node in
     let found = found_for items c.fetch_add-place.result c.in-Ask.subject c.in-Some.ensures.lookup c.in-Ask.is node in
-    record { found = c.keep.ensures told c.args.mode.now items found (rw c.in-Some-node_of.ensures.found c.loop.invariant.found) }
+    let keeps = c.keep.ensures told c.args.mode.now items found in
+    record { found = keeps (rw c.in-Some-node_of.ensures.found c.loop.invariant.found) }
