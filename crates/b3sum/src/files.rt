@@ -2,10 +2,11 @@ ghost use Rattle.std.specs.Prelude.{◌≡◌, ◌≢◌, ◌↔◌, ◌+◌, �
 ghost use Rattle.std.specs.Io.KnownBytes.{Consumes, IsAtEnd};
 ghost use Rattle.b3sum.specs.Files.{is_open};
 
-use crate::retrying::read_retrying;
+use crate::retrying::{fill_at, read_retrying};
 use b3_check::{CannotRead, Shelf};
-use std::fs::File;
+use std::fs::{File, OpenFile};
 use std::io::Read;
+use std::os::unix::fs::FileExt;
 use std::rt::Files;
 
 /// The name that stands for standard input.
@@ -26,6 +27,8 @@ pub struct FileShelf<'a, F: Files, I> {
     input: I,
     is_input_taken: bool,
     source: Source<F::File>,
+    // how many bytes were read of it
+    given: u64,
     failures: u64,
 }
 
@@ -42,6 +45,7 @@ impl<'a, F: Files, I: Read> FileShelf<'a, F, I> {
             input,
             is_input_taken: false,
             source: Source::Nothing,
+            given: 0,
             failures: 0,
         }
     }
@@ -60,7 +64,10 @@ impl<'a, F: Files, I: Read> FileShelf<'a, F, I> {
     }
 }
 
-impl<F: Files, I: Read> Shelf for FileShelf<'_, F, I> {
+impl<F: Files, I: Read> Shelf for FileShelf<'_, F, I>
+where
+    F::File: FileExt,
+{
     ghost use Rattle.b3sum.specs.declared.files.Source.TheVariants.{Input};
 
     ghost failures = { λ shelf. shelf.failures };
@@ -86,6 +93,7 @@ impl<F: Files, I: Read> Shelf for FileShelf<'_, F, I> {
     {
         // The file before is closed first: its number may be the one that the input had.
         self.source = Source::Nothing;
+        self.given = 0;
         if name != INPUT_NAME {
             let Ok(file) = File::open(self.files, name) else {
                 return Err(self.fail());
@@ -122,21 +130,53 @@ impl<F: Files, I: Read> Shelf for FileShelf<'_, F, I> {
             Source::Opened(file) => read_retrying(file, room),
         };
         match given {
-            Ok(count) => Ok(count),
+            Ok(count) => {
+                self.given = self.given.saturating_add(count as u64);
+                Ok(count)
+            }
             Err(_) => Err(self.fail()),
         }
     }
 
-    /// The input may, and whatever is no plain file.
-    fn may_wait(&self, name: &str) -> bool
-        ensures input { name.now ≡ codes "-" → result ≡ true }
-    {
+    // Of a plain file that tells its length, and of no other: those of `/proc` tell 0.
+    fn peek(&self, name: &str, room: &mut [u8]) -> Result<usize, usize> {
         if name == INPUT_NAME {
-            return true;
+            return Err(0);
         }
-        match self.files.metadata(name) {
-            Ok(metadata) => !metadata.is_file(),
-            Err(_) => true,
+        let needed = match self.files.metadata(name) {
+            Ok(metadata) if metadata.is_file() && metadata.len() > 0 => {
+                (metadata.len() as usize).saturating_add(1)
+            }
+            _ => return Err(0),
+        };
+        if needed > room.len() {
+            return Err(needed);
+        }
+        let Ok(file) = File::open(self.files, name) else {
+            return Err(0);
+        };
+        // Where the room is full, the file may go on behind it.
+        match fill_at(&file, 0, room) {
+            Some(len) if len < room.len() => Ok(len),
+            _ => Err(0),
+        }
+    }
+
+    // All who read hold the one file that is open: another file under its name changes nothing.
+    fn read_at(&self, place: u64, room: &mut [u8]) -> Option<usize> {
+        let Source::Opened(file) = &self.source else {
+            return None;
+        };
+        fill_at(file, self.given.saturating_add(place), room)
+    }
+
+    fn len_hint(&self) -> u64 {
+        let Source::Opened(file) = &self.source else {
+            return 0;
+        };
+        match file.metadata() {
+            Ok(metadata) if metadata.is_file() => metadata.len().saturating_sub(self.given),
+            _ => 0,
         }
     }
 }

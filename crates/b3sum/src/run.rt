@@ -15,15 +15,13 @@ use std::thread::Threads;
 /// Does what the words of a call ask for, and answers the status: 2 where they ask for nothing that can
 /// be done, else that of the run's tally, or 1 where a fault stops it. The refusal or the fault is said
 /// on `err`.
-pub fn run_words<R: Threads + Wait + Sync, S: Shelf + Send, O: Sink, E: Sink, G: Gate + Sync>(
-    rt: &R,
-    alloc: Global,
-    shelf: &mut S,
-    words: Words,
-    out: &mut O,
-    err: &mut E,
-    gate: &G,
-) -> u8
+pub fn run_words<
+    R: Threads + Wait + Sync,
+    S: Shelf + Send + Sync,
+    O: Sink,
+    E: Sink,
+    G: Gate + Sync,
+>(rt: &R, alloc: Global, shelf: &mut S, words: Words, out: &mut O, err: &mut E, gate: &G) -> u8
     requires shelf_failures { S.failures shelf.old < 2 ^ 63 }
     requires out_failures { O.failures out.old < 2 ^ 63 }
     requires err_failures { E.failures err.old < 2 ^ 63 }
@@ -42,7 +40,7 @@ pub fn run_words<R: Threads + Wait + Sync, S: Shelf + Send, O: Sink, E: Sink, G:
 }
 
 // Does a task, and answers the status.
-fn run_task<R: Threads + Wait + Sync, S: Shelf + Send, O: Sink, E: Sink, G: Gate + Sync>(
+fn run_task<R: Threads + Wait + Sync, S: Shelf + Send + Sync, O: Sink, E: Sink, G: Gate + Sync>(
     rt: &R,
     alloc: Global,
     shelf: &mut S,
@@ -69,7 +67,7 @@ fn run_task<R: Threads + Wait + Sync, S: Shelf + Send, O: Sink, E: Sink, G: Gate
 }
 
 // Runs the engine of a task.
-fn run_engine<R: Threads + Wait + Sync, S: Shelf + Send, O: Sink, E: Sink, G: Gate + Sync>(
+fn run_engine<R: Threads + Wait + Sync, S: Shelf + Send + Sync, O: Sink, E: Sink, G: Gate + Sync>(
     rt: &R,
     alloc: Global,
     shelf: &mut S,

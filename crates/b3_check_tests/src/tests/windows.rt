@@ -75,7 +75,7 @@ const THREE_LEN: u64 = 6_291_456;
 const THREE_WINDOWS: &str = "60cd1e4e80a3f746015c4453978d0a7f901e0764b2931bbc9c44ab7b18fc7684";
 
 // Sums one name of this shelf, by at most so many reads.
-fn assert_sum<R: Abort + Threads + Wait + Sync, S: Shelf + Send>(
+fn assert_sum<R: Abort + Threads + Wait + Sync, S: Shelf + Send + Sync>(
     rt: &R,
     alloc: Global,
     shelf: &mut S,

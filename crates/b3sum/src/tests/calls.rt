@@ -26,7 +26,7 @@ fn arguments(alloc: Global, words: &[&str]) -> Result<Vec<String>, AllocError> {
 }
 
 // A call over this shelf, which writes these texts and ends with this status.
-fn assert_call<R: Abort + Threads + Wait + Sync, S: Shelf + Send>(
+fn assert_call<R: Abort + Threads + Wait + Sync, S: Shelf + Send + Sync>(
     rt: &R,
     alloc: Global,
     shelf: &mut S,
@@ -337,7 +337,7 @@ fn arguments_that_cannot_be_had(rt: HostRuntime) {
 }
 
 // A call with these words, whose output takes three bytes.
-fn assert_cut_short<R: Abort + AllocGlobal + Threads + Wait + Sync, S: Shelf + Send>(
+fn assert_cut_short<R: Abort + AllocGlobal + Threads + Wait + Sync, S: Shelf + Send + Sync>(
     rt: &R,
     shelf: &mut S,
     words: &[&str],

@@ -223,13 +223,18 @@ fn a_folder_is_no_file(rt: HostRuntime) {
 }
 
 #[test]
-fn what_is_no_plain_file_may_wait(rt: HostRuntime) {
-    let shelf = FileShelf::new(&rt, b"".as_slice());
-    assert!(rt; shelf.may_wait("-"));
-    assert!(rt; shelf.may_wait("/"));
-    assert!(rt; shelf.may_wait("/dev/null"));
-    assert!(rt; shelf.may_wait("a file that is not there"));
-    assert!(rt; !shelf.may_wait("/proc/self/exe"));
+fn a_plain_file_alone_is_looked_at(rt: HostRuntime) {
+    let shelf = FileShelf::new(&rt, b"four".as_slice());
+    let mut room = [0; 8];
+    assert_eq!(rt; shelf.peek("-", &mut room), Err(0));
+    assert_eq!(rt; shelf.peek("/", &mut room), Err(0));
+    assert_eq!(rt; shelf.peek("/dev/null", &mut room), Err(0));
+    assert_eq!(rt; shelf.peek("a file that is not there", &mut room), Err(0));
+    assert!(rt;
+        shelf
+            .peek("/proc/self/exe", &mut room)
+            .is_err_and(|needed| needed > 8)
+    );
 }
 
 #[test]

@@ -46,16 +46,19 @@ run-requires g c = λ _.
         (
           c.type_bounds.sync-G,
           (
-            (refl, (refl, tt)),
+            c.type_bounds.sync-S,
             (
-              ap (λ (output : Output). output.length == 32) c.args.self.now.output,
+              (refl, (refl, tt)),
               (
-                omega (arith, few, text, size, ok, c.args.self.now.largest),
-                record {
-                  shelf = omega (arith, c.requires.shelf, went.heard.failures, few, text, size, ok);
-                  out = omega (arith, c.requires.out, went.out.count);
-                  err = omega (arith, c.requires.err, went.err.count);
-                },
+                ap (λ (output : Output). output.length == 32) c.args.self.now.output,
+                (
+                  omega (arith, few, text, size, ok, c.args.self.now.largest),
+                  record {
+                    shelf = omega (arith, c.requires.shelf, went.heard.failures, few, text, size, ok);
+                    out = omega (arith, c.requires.out, went.out.count);
+                    err = omega (arith, c.requires.err, went.err.count);
+                  },
+                ),
               ),
             ),
           ),
