@@ -8,6 +8,7 @@ mod hostile;
 mod memory;
 mod plans;
 mod random;
+mod source;
 mod workers;
 
 use b3_board::*;
