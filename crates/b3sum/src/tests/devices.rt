@@ -6,6 +6,7 @@ use b3_check::{CannotRead, Shelf, Sink, SinkFailed};
 use std::alloc::{AllocError, Allocator};
 use std::fs::{Metadata, OpenFile, OpenOptions};
 use std::io::{self, ErrorKind, Read, Seek, SeekFrom, Write};
+use std::os::unix::fs::FileExt;
 use std::rt::Files;
 
 // Is interrupted before each call that it lets through.
@@ -97,6 +98,16 @@ impl Write for EmptyFile {
 
 impl Seek for EmptyFile {
     fn seek(&mut self, _pos: SeekFrom) -> io::Result<u64> {
+        Ok(0)
+    }
+}
+
+impl FileExt for EmptyFile {
+    fn read_at(&self, _buf: &mut [u8], _offset: u64) -> io::Result<usize> {
+        Ok(0)
+    }
+
+    fn write_at(&self, _buf: &[u8], _offset: u64) -> io::Result<usize> {
         Ok(0)
     }
 }
