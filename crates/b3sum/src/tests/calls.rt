@@ -3,10 +3,9 @@
 ghost use Rattle.std.specs.Prelude.{◌≡◌};
 
 use crate::call::run_call;
-use crate::files::FileShelf;
-use crate::outputs::OutputSink;
 use b3_board::OpenGate;
 use b3_check::{MemoryShelf, MemorySink, Shelf, Sink};
+use b3_program::{FileShelf, OutputSink};
 use std::alloc::{AllocError, Global};
 use std::io;
 use std::process::Abort;
