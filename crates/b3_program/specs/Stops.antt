@@ -1,12 +1,8 @@
 -- How a call ends that reads nothing.
-use Rattle.std.specs.Prelude.{◌≡◌, ◌≢◌, ◌⊎◌, ℕ, List, Bool, true, false, codes, string_bytes}
+use Rattle.std.specs.Prelude.{◌≡◌, ◌≢◌, ℕ, List, Bool, true, false, codes, string_bytes}
 use Rattle.std.specs.IoError.{error_kind}
-use Rattle.std.specs.declared.io.Error.{Error as IoError}
+use Rattle.std.specs.declared.io.Error.{Error}
 use Rattle.std.specs.declared.io.ErrorKind.TheVariants.{InvalidData}
-use Rattle.clap.specs.Words.{kind_of}
-use Rattle.clap.specs.declared.error.Error.{Error as WordError}
-use Rattle.clap.specs.declared.error.kind.ErrorKind.{ErrorKind}
-use Rattle.clap.specs.declared.error.kind.ErrorKind.TheVariants.{DisplayHelp, DisplayVersion, OutOfMemory}
 use Rattle.b3_check.specs.Faults.{fault_text}
 use Rattle.b3_check.specs.Runs.{Sheet}
 use Rattle.b3_check.specs.declared.fault.RunFault.TheVariants as RunFault
@@ -38,6 +34,6 @@ EndsBy (Refused text) = Complains (string_bytes text) 2
 EndsBy (Asked text) = Replies (string_bytes text)
 
 -- why there are no arguments: one is not text, or a growth was refused
-pub record IsStopForInput (error : IoError) (stop : Stop) : Type 0 where
+pub record IsStopForInput (error : Error) (stop : Stop) : Type 0 where
   pub not_text : error_kind error ≡ InvalidData → stop ≡ NotText
   pub memory : error_kind error ≢ InvalidData → stop ≡ Memory
