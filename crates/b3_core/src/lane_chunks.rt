@@ -8,8 +8,9 @@ ghost use Rattle.b3_core.specs.Chunks.{chunk_at, chunk_node};
 ghost use Rattle.b3_core.specs.Nodes.{chaining};
 ghost use Rattle.b3_core.specs.Lanes.{AreWide, chunk_chaining, lane, word_from};
 
+use crate::flags::CHUNK_END;
 use crate::lanes::{all_listed, chainings8, counters_from};
-use crate::leaves::{BLOCK_LEN, CHUNK_END, CHUNK_LEN, block_flags};
+use crate::leaves::{BLOCK_LEN, CHUNK_LEN, block_flags};
 use crate::modes::Mode;
 use crate::spread::spread;
 use std::simd::prelude::*;

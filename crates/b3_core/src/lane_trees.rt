@@ -5,13 +5,14 @@ ghost use Rattle.b3_core.specs.Nodes.{chaining};
 ghost use Rattle.b3_core.specs.Tree.{chunks, parent_node, top};
 ghost use Rattle.b3_core.specs.Lanes.{AreChunkChainings, AreWide, lane, part};
 
+use crate::flags::PARENT;
 use crate::lane_chunks::{chain_eight, chain_few};
 use crate::lanes::{all_listed, chainings8, listed};
 use crate::leaves::{BLOCK_LEN, CHUNK_LEN, chunk_node};
 use crate::modes::Mode;
 use crate::nodes::Node;
 use crate::spread::spread;
-use crate::tree::{PARENT, chunks, left, parent_node};
+use crate::tree::{chunks, left, parent_node};
 use std::simd::prelude::*;
 
 // The parents of sixteen chaining values, two by two: `left` has the first eight of them.

@@ -15,6 +15,8 @@ pub fn is_subtree(n: u64, span: Span) -> bool
     if span.count == 0 || span.count > n || span.first > n - span.count {
         return false;
     }
+    // A subtree fills a place for a power of two of chunks, which begins at a multiple of that power; only the last
+    // one of the tree may be shorter.
     let whole = span.count.next_power_of_two();
     span.first % whole == 0 && (span.count == whole || span.first + span.count == n)
 }
