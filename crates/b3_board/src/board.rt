@@ -107,21 +107,16 @@ impl<'a, L: Planned> Board<'a, L> {
         ensures share_unchanged { OnErr result (share.new ≡ share.old) }
         ensures lawful { IsLawful self.new }
     {
-        let Some(place) = find_open(self.entries.as_slice(), done.span) else {
+        let Some(_place) = find_open(self.entries.as_slice(), done.span) else {
             return Err(Refused::NotOpen(done));
         };
         if !done.is_of(&self.tree) {
             return Err(Refused::OtherBytes(done));
         }
-        let node = done.node;
-        let chaining_value = done.chaining_value;
-        self.account.credit(share, done.span.count);
-        let kept = KeptNode {
-            node,
-            chaining_value,
-        };
-        settle(self.entries.as_mut_slice(), &self.tree, place, kept);
-        Ok(())
+        match self.deposit_own(OwnDone::of_done(done), share) {
+            Ok(()) => Ok(()),
+            Err(_) => unreachable!(),
+        }
     }
 
     /// The same for work of the board's own plan, which its type tells: no byte is compared.

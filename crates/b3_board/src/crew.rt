@@ -14,7 +14,8 @@ use b3_core::Span;
 use std::alloc::{AllocError, Global};
 use std::sync::ledger::Ledger;
 
-pub(crate) const MAX_WORKERS: u32 = 64;
+/// The greatest number of workers of a run.
+pub const MAX_WORKERS: u32 = 64;
 
 /// What makes a further thread worth its start: so many chunks of input.
 pub const CHUNKS_A_THREAD: u64 = 128;

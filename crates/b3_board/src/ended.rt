@@ -14,7 +14,8 @@ pub struct Ended<L: Planned> {
     pub share: Share<L>,
 }
 
-// What each worker of a run works with, and keeps for the run to join.
+// What each worker of a run works with, and keeps for the run to join. It is no `Ended`: it holds a
+// part of the run's room besides, and its ledger may be one over a source.
 #[derive(Drop)]
 pub(crate) struct Hand<'r, L: Ledger> {
     pub(crate) seat: Seat,

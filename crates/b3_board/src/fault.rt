@@ -6,7 +6,8 @@ ghost use Rattle.b3_board.specs.declared.fault.BoardFault.TheVariants.{Memory};
 use std::alloc::{AllocError, AllocFailed};
 use thiserror::Error;
 
-/// Why a plan, a board or a run of workers is refused, with the number of the fault.
+/// Why a plan, a board or a run of workers is refused, with the number of the fault. Of several that hold, each call
+/// says which comes; the numbers do not.
 #[derive(Clone, Copy, Debug, PartialEq, Eq, Error)]
 pub enum BoardFault {
     /// The grain is no power of two from 1 to 2^20.

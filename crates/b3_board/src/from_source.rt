@@ -74,6 +74,7 @@ pub fn hash_source<R: Threads + Wait + Sync, S: Source + Sync, G: Gate + Sync>(
     if workers == 0 || workers > MAX_WORKERS {
         return Err(BoardFault::BadWorkers);
     }
+    // In the order of `IsGrainFault`, which decides.
     if !is_grain(grain) {
         return Err(BoardFault::BadGrain);
     }
@@ -93,6 +94,8 @@ pub fn hash_source<R: Threads + Wait + Sync, S: Source + Sync, G: Gate + Sync>(
         first,
         spans,
     };
+    // The proof of this call picks what is known of the source, its mode and its first chunk for those that `Brand`
+    // names.
     read_on::<R, Brand, S, G>(rt, alloc, &reading, workers, room, gate, Blank::new(128))
 }
 

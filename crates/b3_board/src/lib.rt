@@ -38,7 +38,7 @@ mod workers;
 
 pub use board::{Board, Refused};
 pub use claims::{Claims, Seat};
-pub use crew::CHUNKS_A_THREAD;
+pub use crew::{CHUNKS_A_THREAD, MAX_WORKERS};
 pub use cutting::default_grain;
 pub use ended::Ended;
 pub use fault::BoardFault;

@@ -43,12 +43,13 @@ fn partner(entries: &[Entry], n: u64, here: usize) -> Option<usize>
 
 // The chaining value of the piece at `place`.
 fn chaining_at(entries: &[Entry], place: usize) -> [u32; 8]
-    requires { place < length entries.now }
+    requires inside { place < length entries.now }
+    requires kept { is_kept (at entries.now place).state ≡ true }
     ensures { (kept : KeptNode) → (at entries.now place).state ≡ Kept kept → result ≡ kept.chaining_value }
 {
     match &entries[place].state {
         State::Kept(kept) => kept.chaining_value,
-        _ => [0; 8],
+        _ => unreachable!(),
     }
 }
 
@@ -56,6 +57,8 @@ fn chaining_at(entries: &[Entry], place: usize) -> [u32; 8]
 fn join_two(entries: &mut [Entry], mode: &Mode, left: usize, right: usize)
     requires left_inside { left < length entries.old }
     requires right_inside { right < length entries.old }
+    requires left_kept { is_kept (at entries.old left).state ≡ true }
+    requires right_kept { is_kept (at entries.old right).state ≡ true }
     requires apart { left ≢ right }
     requires fits { (at entries.old left).span.count + (at entries.old right).span.count < 2 ^ 64 }
     ensures { (a b : KeptNode) → (at entries.old left).state ≡ Kept a → (at entries.old right).state ≡ Kept b

@@ -64,6 +64,7 @@ pub fn hash_parallel<'a, R: Threads + Wait + Sync, G: Gate + Sync>(
     if workers == 0 || workers > MAX_WORKERS {
         return Err(BoardFault::BadWorkers);
     }
+    // The proof of this call picks the plan's input, mode and first chunk for those that `Brand` names.
     hash_on::<R, Brand, G>(rt, alloc, plan, workers, gate, Blank::new(128))
 }
 

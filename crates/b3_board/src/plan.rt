@@ -76,6 +76,7 @@ impl<'a> Plan<'a> {
         ensures refused { (fault : BoardFault) → IsGrainFault (length input.now) grain fault → result ≡ Err fault }
         ensures only { IfErr result (λ fault. (fault ≡ Memory) ⊎ IsGrainFault (length input.now) grain fault) }
     {
+        // In the order of `IsGrainFault`, which decides.
         if !is_grain(grain) {
             return Err(BoardFault::BadGrain);
         }
@@ -123,6 +124,7 @@ impl<'a> Plan<'a> {
         ensures refused { (fault : BoardFault) → IsCutFault (length input.now) spans.now fault → result ≡ Err fault }
         ensures only { IfErr result (λ fault. (fault ≡ Memory) ⊎ IsCutFault (length input.now) spans.now fault) }
     {
+        // In the order of `IsCutFault`, which decides.
         if input.len() > MAX_INPUT {
             return Err(BoardFault::TooLarge);
         }

@@ -6,6 +6,7 @@ ghost use Rattle.b3_core.specs.Tree.{chunks};
 ghost use Rattle.b3_core.specs.declared.modes.Mode.{Mode};
 ghost use Rattle.b3_board.specs.Spans.{top_of};
 
+use crate::jobs::Done;
 use crate::tree::Tree;
 use b3_core::{Mode, Node, Span};
 use std::marker::{Brand, Model, PhantomData};
@@ -21,6 +22,8 @@ pub trait Planned: Ledger {
     ghost first: { ℕ };
 }
 
+// Not what a board at `Brand` is over: the proof of a call that passes `Brand` picks the input, the mode and the first
+// chunk anew, as that of `hash_parallel` picks its plan's. These values would stand where nothing is picked.
 impl Planned for Brand {
     ghost input = { [] };
 
@@ -98,4 +101,19 @@ impl<L: Planned> Model for OwnDone<L> {
     ghost Value = { Piece };
 
     ghost view = { λ done. record { span = done.span; node = done.node } };
+}
+
+impl<L: Planned> OwnDone<L> {
+    // Work of any origin that is found to be of the named input.
+    pub(crate) fn of_done(done: Done<'_>) -> OwnDone<L>
+        requires { done.node ≡ top_of L.input L.mode L.first done.span }
+        ensures { result ≡ record { span = done.entry.span; node = done.entry.node } }
+    {
+        OwnDone {
+            span: done.span,
+            node: done.node,
+            chaining_value: done.chaining_value,
+            of: PhantomData,
+        }
+    }
 }

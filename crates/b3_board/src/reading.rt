@@ -11,9 +11,7 @@ use crate::share::Share;
 use crate::source::Source;
 use crate::source_board::SourceBoard;
 use crate::sourced::{ReadDone, Sourced};
-use b3_core::{Mode, Span};
-
-const CHUNK_LEN: u64 = 1024;
+use b3_core::{CHUNK_LEN, Mode, Span};
 
 // So many bytes of a source from a place on, with a mode, the number of their first chunk, and their cutting.
 #[derive(Drop)]
@@ -61,8 +59,8 @@ impl<'s, S: Source, L: Sourced> Course<L, SourceBoard<L>> for Reading<'s, S> {
     // Reads the span into the room, and hashes it there.
     fn hash(&self, i: usize, room: &mut [u8]) -> Option<ReadDone<L>> {
         let span = self.spans.as_slice()[i];
-        let start = CHUNK_LEN * span.first;
-        let len = (CHUNK_LEN * span.count).min(self.len - start) as usize;
+        let start = CHUNK_LEN as u64 * span.first;
+        let len = (CHUNK_LEN as u64 * span.count).min(self.len - start) as usize;
         if room.len() < len {
             return None;
         }

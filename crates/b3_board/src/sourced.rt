@@ -20,6 +20,7 @@ pub(crate) trait Sourced: Ledger {
     ghost first: { ℕ };
 }
 
+// Not what a board at `Brand` is over: the proof of `hash_source` picks what is known of its source.
 impl Sourced for Brand {
     ghost input = { record { told = None; len = 0 } };
 

@@ -5,9 +5,7 @@ ghost use Rattle.b3_core.specs.Tree.{chunks, top};
 ghost use Rattle.b3_board.specs.Spans.{in_memory, part, top_of};
 
 use crate::ground::Ground;
-use b3_core::{Mode, Node, Span, chunks, top};
-
-const CHUNK_LEN: usize = 1024;
+use b3_core::{CHUNK_LEN, Mode, Node, Span, chunks, top};
 
 // An input with its mode and the number of its first chunk.
 #[derive(Clone, Copy)]

@@ -1,20 +1,16 @@
-use Rattle.std.proofs.Common.{◌≡◌, ◌≢◌, ℕ, ◌+◌, ◌≤◌, List, None, length, map, set, sum_by, rules, arith, refl, sym, subst, ap, ◌∙◌}
+use Rattle.std.proofs.Common.{◌≡◌, ◌≢◌, ℕ, ◌+◌, ◌≤◌, List, length, rules, refl, sym, subst, ap, ◌∙◌}
 use Rattle.std.proofs.lemmas.Bool.{false≢true}
-use Rattle.std.proofs.lemmas.List.{with_items_is}
 use Rattle.std.specs.List.{Contains}
-use Rattle.std.specs.Vec.{with_items}
 use Rattle.b3_core.specs.Tree.{chunks}
 use Rattle.b3_core.specs.declared.tree.Span.{Span}
-use Rattle.b3_board.specs.Entries.{at, kept_chunk, kept_count, open_span}
-use Rattle.b3_board.specs.Pictures.{IsDeposit, IsLawful, IsOwn, Picture}
+use Rattle.b3_board.specs.Entries.{at}
+use Rattle.b3_board.specs.Pictures.{IsLawful, IsOwn, Picture, Piece}
 use Rattle.b3_board.specs.Plans.{Hashed}
-use Rattle.b3_board.specs.declared.entries.Entry.{Entry}
-use Rattle.b3_board.specs.Spans.{IsNodeOf, has, in_memory, top_of}
+use Rattle.b3_board.specs.Spans.{in_memory}
 use Rattle.b3_board.specs.declared.entries.State.TheVariants.{Open}
-use Rattle.b3_board.proofs.Deposits.{Contains-open, deposited, not_open}
-use Rattle.b3_board.proofs.KnownNodes.{in_memory-IsNodeOf}
-use Rattle.b3_board.proofs.Picturing.{lawful_picture, picture_of}
-use Rattle.b3_board.proofs.OpenSpans.{open_inside, same_length}
+use Rattle.b3_board.proofs.Deposits.{Contains-open, not_open}
+use Rattle.b3_board.proofs.Picturing.{lawful_picture}
+use Rattle.b3_board.proofs.OpenSpans.{open_inside}
 use Rattle.b3_board.proofs.board.Board.deposit.Goals as goal
 
 pub returns-in_default-clause-ok : goal.returns-in_default-clause-ok
@@ -54,7 +50,7 @@ is_of-requires-clause-inside g c =
     let board = c.self.inside in
     let found = rw c.as_slice.ensures.value at c.in-Some.ensures.found in
     let h = open_inside (in_memory board.tree.input.now) board.tree.mode board.tree.first board.entries.items
-    c.self.invariant.lawful c.in-Some.place found.1 in
+    c.self.invariant.lawful c.in-Some._place found.1 in
     subst (λ (s : Span). s.first + s.count ≤ chunks (length c.self.inside.tree.input.now)) (found.2
     ∙ (ap (λ (d : Hashed). d.span) c.done.view_is)) h.0
 
@@ -62,7 +58,7 @@ pub returns-then-not-is_of-clause-not_open : goal.returns-then-not-is_of-clause-
 returns-then-not-is_of-clause-not_open g c = λ absent.
     let board = c.self.inside in
     let found = rw c.as_slice.ensures.value at c.in-Some.ensures.found in
-    let there = Contains-open board.entries.items c.in-Some.place c.args.done.span found.0 found.1 (found.2
+    let there = Contains-open board.entries.items c.in-Some._place c.args.done.span found.0 found.1 (found.2
     ∙ (ap (λ (d : Hashed). d.span) c.done.view_is)) in
     absurd (absent (subst (λ (p : Picture (List ℕ)). Contains p.open_spans c.args.done.span) c.self.view_is there))
 
@@ -78,7 +74,7 @@ pub returns-clause-ok : goal.returns-clause-ok
 returns-clause-ok g c =
     let board = c.self.inside in
     let found = rw c.as_slice.ensures.value at c.in-Some.ensures.found in
-    let there = Contains-open board.entries.items c.in-Some.place c.args.done.span found.0 found.1 (found.2
+    let there = Contains-open board.entries.items c.in-Some._place c.args.done.span found.0 found.1 (found.2
     ∙ (ap (λ (d : Hashed). d.span) c.done.view_is)) in
     let same = c.is_of.ensures.0 (search (rules, c.if-not-is_of.false)) in
     let own : IsOwn c.args.self.now c.args.done =
@@ -91,67 +87,23 @@ pub returns-clause-not_open : goal.returns-clause-not_open
 returns-clause-not_open g c = λ absent.
     let board = c.self.inside in
     let found = rw c.as_slice.ensures.value at c.in-Some.ensures.found in
-    let there = Contains-open board.entries.items c.in-Some.place c.args.done.span found.0 found.1 (found.2
+    let there = Contains-open board.entries.items c.in-Some._place c.args.done.span found.0 found.1 (found.2
     ∙ (ap (λ (d : Hashed). d.span) c.done.view_is)) in
     absurd (absent (subst (λ (p : Picture (List ℕ)). Contains p.open_spans c.args.done.span) c.self.view_is there))
 
-pub returns-clause-step : goal.returns-clause-step
-returns-clause-step g c =
-    let board = c.self.inside in
-    let tree = c.self.inside.tree in
-    let found = rw c.as_slice.ensures.value at c.in-Some.ensures.found in
-    let opens : map open_span c.settle.new.entries ≡ set (map open_span board.entries.items) c.in-Some.place None =
-    search (rules, c.settle.ensures.opens, c.as_mut_slice.ensures.value) in
-    let span_is = ap (λ (d : Hashed). d.span) c.done.view_is in
-    let closed : Span = (at board.entries.items c.in-Some.place).span in
-    let joins : (k : ℕ) → sum_by (kept_chunk k) c.settle.new.entries
-    ≡ sum_by (kept_chunk k) board.entries.items + has k closed.first closed.count =
-    λ k. search (rules, c.settle.ensures.chunks k, c.as_mut_slice.ensures.value) in
-    let of : List Entry → ℕ → Picture (List ℕ) = picture_of tree.input.now tree.mode tree.first in
-    let step = deposited tree.input.now tree.mode tree.first board.entries.items c.settle.new.entries c.in-Some.place
-    c.args.done.span board.account.chunks found.1 (found.2 ∙ span_is) opens joins in
-    let book_is = c.credit.ensures.chunks ∙ ap (λ (s : Span). board.account.chunks + s.count) span_is in
-    let before = of board.entries.items board.account.chunks in
-    let booked = subst (λ (b : ℕ). IsDeposit before c.args.done.span (of c.settle.new.entries b)) (sym book_is) step in
-    let items : (with_items board.entries c.settle.new.entries).items ≡ c.settle.new.entries =
-    with_items_is board.entries c.settle.new.entries
-    (same_length board.entries.items c.settle.new.entries c.in-Some.place opens ∙ sym board.entries.ok.0) in
-    let after = of c.settle.new.entries c.credit.new.self.chunks in
-    let moved = subst (λ (p : Picture (List ℕ)). IsDeposit p c.args.done.span after) c.self.view_is booked in
-    let P : List Entry → Type 0 =
-    λ es. IsDeposit c.args.self.now c.args.done.span (of es c.credit.new.self.chunks) in
-    subst P (sym items) moved
-
-pub returns-clause-lawful : goal.returns-clause-lawful
-returns-clause-lawful g c =
-    let board = c.self.inside in
-    let tree = c.self.inside.tree in
-    let found = rw c.as_slice.ensures.value at c.in-Some.ensures.found in
-    let count : sum_by kept_count c.settle.new.entries
-    ≡ sum_by kept_count board.entries.items + (at board.entries.items c.in-Some.place).span.count =
-    search (rules, c.settle.ensures.count, c.as_mut_slice.ensures.value) in
-    let booked : sum_by kept_count c.settle.new.entries ≡ c.credit.new.self.chunks =
-    omega (arith, count, c.self.invariant.booked, c.credit.ensures.chunks, ap (λ (s : Span). s.count) found.2) in
-    let opens : map open_span c.settle.new.entries ≡ set (map open_span board.entries.items) c.in-Some.place None =
-    search (rules, c.settle.ensures.opens, c.as_mut_slice.ensures.value) in
-    let items : (with_items board.entries c.settle.new.entries).items ≡ c.settle.new.entries =
-    with_items_is board.entries c.settle.new.entries
-    (same_length board.entries.items c.settle.new.entries c.in-Some.place opens ∙ sym board.entries.ok.0) in
-    let P : List Entry → Type 0 =
-    λ es. IsLawful (picture_of tree.input.now tree.mode tree.first es c.credit.new.self.chunks) in
-    subst P (sym items)
-    (lawful_picture tree.input.now tree.mode tree.first c.settle.new.entries c.settle.ensures.lawful
-    c.credit.new.self.chunks booked)
-
-pub settle-requires-clause-top : goal.settle-requires-clause-top
-settle-requires-clause-top g c =
-    let board = c.self.inside in
-    let tree = board.tree in
-    let done = c.done.inside in
-    let found = rw c.as_slice.ensures.value at c.in-Some.ensures.found in
-    let span = (at board.entries.items c.in-Some.place).span in
+pub of_done-requires : goal.of_done-requires
+of_done-requires g c =
+    let kept = c.self.invariant in
     let same = c.is_of.ensures.0 (search (rules, c.if-not-is_of.false)) in
-    let is : done.node ≡ top_of tree.input.now tree.mode tree.first span = search (rules, same, found.2, done.is_top) in
-    let node : IsNodeOf (in_memory tree.input.now) tree.mode tree.first span done.node =
-    in_memory-IsNodeOf tree.input.now tree.mode tree.first span done.node is in
-    rw c.as_mut_slice.ensures.value node
+    search (rules, same, kept.input_is, kept.mode_is, kept.first_is, c.done.inside.is_top)
+
+pub unreachable-requires : goal.unreachable-requires
+unreachable-requires g c =
+    let board = c.self.inside in
+    let found = rw c.as_slice.ensures.value at c.in-Some.ensures.found in
+    let there = Contains-open board.entries.items c.in-Some._place c.args.done.span found.0 found.1 (found.2
+    ∙ (ap (λ (d : Hashed). d.span) c.done.view_is)) in
+    let here = subst (λ (p : Picture (List ℕ)). Contains p.open_spans c.args.done.span) c.self.view_is there in
+    let span_is = ap (λ (d : Piece). d.span) c.of_done.ensures in
+    let own = subst (λ (s : Span). Contains c.args.self.now.open_spans s) (sym span_is) here in
+    search (rules, c.deposit_own.ensures.ok.1 own, c.in-Err.is)
