@@ -8,9 +8,9 @@ ghost use Rattle.b3_check.specs.Tasks.{IsFitItem, task_of};
 ghost use Rattle.b3_check.specs.declared.items.Item.{Item};
 
 use crate::crew::Crew;
-use crate::items::{Item, Plan};
+use crate::items::{Agenda, Item};
 use crate::shelf::Shelf;
-use b3_board::Gate;
+use b3_board::{Gate, MAX_WORKERS};
 use b3_core::{Mode, Node, top};
 use std::alloc::{AllocError, Global};
 use std::collections::VecDeque;
@@ -21,7 +21,7 @@ use std::thread::Threads;
 
 /// How many items the first round takes: one for each of the most workers, and no more, so that the first line is
 /// not long in coming.
-const FIRST_ROUND: usize = 64;
+const FIRST_ROUND: usize = MAX_WORKERS as usize;
 
 /// How many items a round takes at most. Each takes twice as many as the one before.
 const MOST_ITEMS: usize = 4_096;
@@ -136,7 +136,7 @@ pub fn hands(alloc: Global, workers: usize) -> Result<Vec<Hand>, AllocError> {
     Ok(hands)
 }
 
-/// The items of a plan that come next, and the nodes that were found for the first of them.
+/// The items of an agenda that come next, and the nodes that were found for the first of them.
 #[derive(Drop)]
 pub struct Ahead<'a> {
     alloc: Global,
@@ -161,55 +161,55 @@ impl<'a> Ahead<'a> {
         }
     }
 
-    /// The next item of the plan, with its node if that was found.
-    pub fn next<R: Threads + Wait + Sync, G: Gate + Sync, S: Shelf + Sync, P: Plan<'a>>(
+    /// The next item of the agenda, with its node if that was found.
+    pub fn next<R: Threads + Wait + Sync, G: Gate + Sync, S: Shelf + Sync, P: Agenda<'a>>(
         &mut self,
         crew: &Crew<'_, R, G>,
         hands: &mut [Hand],
         shelf: &S,
         mode: &Mode,
-        plan: &mut P,
+        agenda: &mut P,
     ) -> Result<Option<(Item<'a>, Option<Node>)>, AllocError>
         requires known { AreKnown (S.told shelf.now) mode.now self.old.items.items self.old.nodes.items }
-        ensures next { IfOk result (λ next. MatchOption next (tasks_then self.old.items.items (P.left plan.old) ≡ [])
-            (λ done. tasks_then self.old.items.items (P.left plan.old)
-            ≡ task_of done.0 ∷ tasks_then self.new.items.items (P.left plan.new))) }
+        ensures next { IfOk result (λ next. MatchOption next (tasks_then self.old.items.items (P.left agenda.old) ≡ [])
+            (λ done. tasks_then self.old.items.items (P.left agenda.old)
+            ≡ task_of done.0 ∷ tasks_then self.new.items.items (P.left agenda.new))) }
         ensures known { OnOk result (AreKnown (S.told shelf.now) mode.now self.new.items.items self.new.nodes.items) }
         ensures node { IfOk result (λ next. IfSome next (λ done.
             IsKnown (S.told shelf.now) mode.now (task_of done.0) done.1)) }
         ensures fit { IfOk result (λ next. IfSome next (λ done. (len : ℕ)
-            → All (IsFitItem len) self.old.items.items → P.fits plan.old len ≡ true → IsFitItem len done.0)) }
+            → All (IsFitItem len) self.old.items.items → P.fits agenda.old len ≡ true → IsFitItem len done.0)) }
         ensures all_fit { OnOk result ((len : ℕ) → All (IsFitItem len) self.old.items.items
-            → P.fits plan.old len ≡ true → All (IsFitItem len) self.new.items.items) }
-        ensures still_fits { OnOk result ((len : ℕ) → P.fits plan.new len ≡ P.fits plan.old len) }
+            → P.fits agenda.old len ≡ true → All (IsFitItem len) self.new.items.items) }
+        ensures still_fits { OnOk result ((len : ℕ) → P.fits agenda.new len ≡ P.fits agenda.old len) }
     {
-        self.refill(crew, hands, shelf, mode, plan)?;
+        self.refill(crew, hands, shelf, mode, agenda)?;
         Ok(self.pop())
     }
 
     // Takes and looks at items, where nothing is known of the first.
-    fn refill<R: Threads + Wait + Sync, G: Gate + Sync, S: Shelf + Sync, P: Plan<'a>>(
+    fn refill<R: Threads + Wait + Sync, G: Gate + Sync, S: Shelf + Sync, P: Agenda<'a>>(
         &mut self,
         crew: &Crew<'_, R, G>,
         hands: &mut [Hand],
         shelf: &S,
         mode: &Mode,
-        plan: &mut P,
+        agenda: &mut P,
     ) -> Result<(), AllocError>
         requires known { AreKnown (S.told shelf.now) mode.now self.old.items.items self.old.nodes.items }
-        ensures left { OnOk result (tasks_then self.new.items.items (P.left plan.new)
-            ≡ tasks_then self.old.items.items (P.left plan.old)) }
-        ensures all { OnOk result (self.new.items.items ≡ [] → P.left plan.new ≡ []) }
+        ensures left { OnOk result (tasks_then self.new.items.items (P.left agenda.new)
+            ≡ tasks_then self.old.items.items (P.left agenda.old)) }
+        ensures all { OnOk result (self.new.items.items ≡ [] → P.left agenda.new ≡ []) }
         ensures known { OnOk result (AreKnown (S.told shelf.now) mode.now self.new.items.items self.new.nodes.items) }
         ensures fit { OnOk result ((len : ℕ) → All (IsFitItem len) self.old.items.items
-            → P.fits plan.old len ≡ true → All (IsFitItem len) self.new.items.items) }
-        ensures still_fits { OnOk result ((len : ℕ) → P.fits plan.new len ≡ P.fits plan.old len) }
+            → P.fits agenda.old len ≡ true → All (IsFitItem len) self.new.items.items) }
+        ensures still_fits { OnOk result ((len : ℕ) → P.fits agenda.new len ≡ P.fits agenda.old len) }
     {
         if !self.nodes.is_empty() {
             return Ok(());
         }
         let count = if hands.len() > 1 { self.round } else { 1 };
-        take(&mut self.items, plan, count)?;
+        take(&mut self.items, agenda, count)?;
         self.nodes = look(self.alloc, crew, hands, shelf, mode, &self.items)?;
         self.round = self.round.saturating_mul(2).min(MOST_ITEMS);
         Ok(())
@@ -236,23 +236,23 @@ impl<'a> Ahead<'a> {
     }
 }
 
-// Takes items, until there are so many of them or the plan has no more.
-fn take<'a, P: Plan<'a>>(
+// Takes items, until there are so many of them or the agenda has no more.
+fn take<'a, P: Agenda<'a>>(
     items: &mut VecDeque<Item<'a>>,
-    plan: &mut P,
+    agenda: &mut P,
     count: usize,
 ) -> Result<(), AllocError>
     requires { 0 < count }
-    ensures left { OnOk result (tasks_then items.new.items (P.left plan.new)
-        ≡ tasks_then items.old.items (P.left plan.old)) }
-    ensures all { OnOk result (items.new.items ≡ [] → P.left plan.new ≡ []) }
+    ensures left { OnOk result (tasks_then items.new.items (P.left agenda.new)
+        ≡ tasks_then items.old.items (P.left agenda.old)) }
+    ensures all { OnOk result (items.new.items ≡ [] → P.left agenda.new ≡ []) }
     ensures more { length items.old.items ≤ length items.new.items }
-    ensures fit { OnOk result ((len : ℕ) → All (IsFitItem len) items.old.items → P.fits plan.old len ≡ true
+    ensures fit { OnOk result ((len : ℕ) → All (IsFitItem len) items.old.items → P.fits agenda.old len ≡ true
         → All (IsFitItem len) items.new.items) }
-    ensures still_fits { OnOk result ((len : ℕ) → P.fits plan.new len ≡ P.fits plan.old len) }
+    ensures still_fits { OnOk result ((len : ℕ) → P.fits agenda.new len ≡ P.fits agenda.old len) }
 {
     'items: while items.len() < count {
-        let Some(item) = plan.next()? else {
+        let Some(item) = agenda.next()? else {
             return Ok(());
         };
         items.push_back(item)?;

@@ -108,9 +108,8 @@ fn check_lists<R: Threads + Wait + Sync, G: Gate + Sync, S: Shelf + Send + Sync,
         (scene_of S.Shelf O.Sink E.Sink desk.old) (scene_of S.Shelf O.Sink E.Sink desk.new) result }
     ensures sure { IfOk result (λ tally. RanSurely (check_script options.now (map string_bytes lists.now))
         (scene_of S.Shelf O.Sink E.Sink desk.old) (scene_of S.Shelf O.Sink E.Sink desk.new) tally) }
-    ensures shelf_count { (scene_of S.Shelf O.Sink E.Sink desk.new).failures
-        ≤ (scene_of S.Shelf O.Sink E.Sink desk.old).failures + length lists.now *
-        (1 + options.now.largest) }
+    ensures shelf_count { S.failures desk.new.shelf.now
+        ≤ S.failures desk.old.shelf.now + length lists.now * (1 + options.now.largest) }
     ensures loans { loans desk.new ≡ loans desk.old }
 {
     let mut checker = Checker::new(alloc, crew, options)?;
@@ -169,9 +168,8 @@ impl<'c, R: Threads + Wait + Sync, G: Gate + Sync> Checker<'c, R, G> {
             (length lists.now * (1 + self.old.limits.largest)) }
         ensures run { Runs self.old.limits (lists_script self.old.quiet (map string_bytes lists.now))
             (scene_of S.Shelf O.Sink E.Sink desk.old) (scene_of S.Shelf O.Sink E.Sink desk.new) result }
-        ensures shelf_count { (scene_of S.Shelf O.Sink E.Sink desk.new).failures
-            ≤ (scene_of S.Shelf O.Sink E.Sink desk.old).failures + length lists.now *
-            (1 + self.old.limits.largest) }
+        ensures shelf_count { S.failures desk.new.shelf.now
+            ≤ S.failures desk.old.shelf.now + length lists.now * (1 + self.old.limits.largest) }
         ensures loans { loans desk.new ≡ loans desk.old }
     {
         let mut tally = Tally::none();
@@ -192,8 +190,8 @@ impl<'c, R: Threads + Wait + Sync, G: Gate + Sync> Checker<'c, R, G> {
         ensures run { Runs self.old.limits (list_script self.old.quiet name.now)
             (scene_of S.Shelf O.Sink E.Sink desk.old) (scene_of S.Shelf O.Sink E.Sink desk.new) result }
         ensures count { IfOk result (λ tally. counted tally ≤ 1 + self.old.limits.largest) }
-        ensures shelf_count { (scene_of S.Shelf O.Sink E.Sink desk.new).failures
-            ≤ (scene_of S.Shelf O.Sink E.Sink desk.old).failures + (1 + self.old.limits.largest) }
+        ensures shelf_count { S.failures desk.new.shelf.now
+            ≤ S.failures desk.old.shelf.now + (1 + self.old.limits.largest) }
         ensures loans { loans desk.new ≡ loans desk.old }
         ensures quiet { self.new.quiet ≡ self.old.quiet }
         ensures limits { self.new.limits ≡ self.old.limits }
@@ -203,7 +201,7 @@ impl<'c, R: Threads + Wait + Sync, G: Gate + Sync> Checker<'c, R, G> {
             desk.say(&said)?;
             return Ok(said.tally);
         }
-        let mut plan = ListLines::new(self.alloc, self.quiet, FIRST_LINE, self.reader.text());
-        self.worker.run(desk, &mut plan)
+        let mut agenda = ListLines::new(self.alloc, self.quiet, FIRST_LINE, self.reader.text());
+        self.worker.run(desk, &mut agenda)
     }
 }

@@ -57,8 +57,7 @@ impl<'s, 'o, 'e, S: Shelf + Send + Sync, O: Sink, E: Sink> Desk<'s, 'o, 'e, S, O
         node: Option<Node>,
         limits: Limits,
     ) -> Result<bool, RunFault>
-        requires known { IfSome node (IsNodeOf (scene_of S.Shelf O.Sink E.Sink self.old).told
-            digester.old.output.mode name.now) }
+        requires known { IfSome node (IsNodeOf (S.told self.old.shelf.now) digester.old.output.mode name.now) }
         requires room { HasRoom (scene_of S.Shelf O.Sink E.Sink self.old) 1 }
         requires some_turns { 0 < limits.turns }
         requires turns { limits.turns ≤ 2 ^ 40 }

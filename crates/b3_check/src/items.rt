@@ -52,7 +52,7 @@ impl Subject<'_> {
 }
 
 /// Items, one after the other.
-pub trait Plan<'a> {
+pub trait Agenda<'a> {
     /// What is left to do.
     ghost left: { Self → List Task };
 
@@ -77,8 +77,8 @@ pub struct Names<'a> {
     pub names: &'a [String],
 }
 
-impl<'a> Plan<'a> for Names<'a> {
-    ghost left = { λ plan. map (λ name. name_task plan.form (string_bytes name)) plan.names.now };
+impl<'a> Agenda<'a> for Names<'a> {
+    ghost left = { λ agenda. map (λ name. name_task agenda.form (string_bytes name)) agenda.names.now };
 
     ghost fits = { λ _ _. true };
 

@@ -20,12 +20,12 @@ const KEY_NAME: &str = "-";
 const KEY_LEN: usize = 32;
 
 /// How many bytes of a key are read: one more than it may have.
-const READ_LEN: usize = KEY_LEN + 1;
+const KEY_ROOM_LEN: usize = KEY_LEN + 1;
 
 /// What was read of a key: all of it, or its first 33 bytes.
 #[derive(Clone, Copy)]
 pub struct KeyRead {
-    room: [u8; READ_LEN],
+    room: [u8; KEY_ROOM_LEN],
     len: usize,
 }
 
@@ -68,10 +68,10 @@ fn read_rest<S: Shelf>(shelf: &mut S) -> Option<KeyRead>
     ensures told { S.told shelf.new ≡ S.told shelf.old }
     ensures still_sure { S.is_sure shelf.new ≡ S.is_sure shelf.old }
 {
-    let mut room = [0; READ_LEN];
+    let mut room = [0; KEY_ROOM_LEN];
     let mut len = 0;
-    while len < READ_LEN {
-        let Ok(count) = read_at(shelf, &mut room, len, READ_LEN - len) else {
+    while len < KEY_ROOM_LEN {
+        let Ok(count) = read_at(shelf, &mut room, len, KEY_ROOM_LEN - len) else {
             return None;
         };
         if count == 0 {

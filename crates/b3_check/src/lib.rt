@@ -28,12 +28,13 @@ mod window;
 mod work;
 mod writing;
 
+pub use b3_board::MAX_WORKERS;
 pub use check::run_check;
 pub use fault::RunFault;
 pub use judging::{Answer, Verdict, judge};
 pub use memory_shelf::MemoryShelf;
 pub use memory_sink::MemorySink;
-pub use options::{CheckOptions, Form, KeyChoice, MAX_OUTPUT_LEN, MAX_WORKERS, SumOptions};
+pub use options::{CheckOptions, Form, KeyChoice, MAX_OUTPUT_LEN, SumOptions};
 pub use shelf::{CannotRead, Shelf};
 pub use sink::{Sink, SinkFailed};
 pub use sum::run_sum;

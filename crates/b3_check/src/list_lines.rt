@@ -4,7 +4,7 @@ ghost use Rattle.std.specs.Prelude.{◌≡◌, ◌+◌, ◌^◌, ◌≤◌, ◌=
 ghost use Rattle.b3_lines.specs.Lines.{IsWithin, line_at, lines_of};
 ghost use Rattle.b3_check.specs.Tasks.{line_tasks};
 
-use crate::items::{Item, Plan, Subject};
+use crate::items::{Agenda, Item, Subject};
 use crate::said::Said;
 use b3_lines::{LineFault, Lines, lines, read_line};
 use std::alloc::{AllocError, Global};
@@ -26,9 +26,9 @@ impl<'t> ListLines<'t> {
     /// The lines of this text, numbered from `first` on. `quiet` says nothing of a good one.
     pub fn new(alloc: Global, quiet: bool, first: u64, text: &'t [u8]) -> ListLines<'t>
         requires { first + length text.now ≤ 2 ^ 32 }
-        ensures lines { ⟦<ListLines<'t> as Plan<'t>>⟧.left result ≡ line_tasks quiet first (lines_of text.now) }
-        ensures few { length (⟦<ListLines<'t> as Plan<'t>>⟧.left result) ≤ length text.now }
-        ensures fits { ⟦<ListLines<'t> as Plan<'t>>⟧.fits result 32 ≡ true }
+        ensures lines { ⟦<ListLines<'t> as Agenda<'t>>⟧.left result ≡ line_tasks quiet first (lines_of text.now) }
+        ensures few { length (⟦<ListLines<'t> as Agenda<'t>>⟧.left result) ≤ length text.now }
+        ensures fits { ⟦<ListLines<'t> as Agenda<'t>>⟧.fits result 32 ≡ true }
     {
         ListLines {
             alloc,
@@ -40,8 +40,8 @@ impl<'t> ListLines<'t> {
     }
 }
 
-impl<'t> Plan<'t> for ListLines<'t> {
-    ghost left = { λ plan. line_tasks plan.quiet plan.number (map (line_at plan.text.now) plan.places) };
+impl<'t> Agenda<'t> for ListLines<'t> {
+    ghost left = { λ agenda. line_tasks agenda.quiet agenda.number (map (line_at agenda.text.now) agenda.places) };
 
     ghost fits = { λ _ len. len == 32 };
 

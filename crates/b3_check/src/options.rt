@@ -6,9 +6,6 @@ ghost use Rattle.b3_check.specs.Options.{check_limits, limits_of};
 /// The greatest number of output bytes that a run writes of a digest.
 pub const MAX_OUTPUT_LEN: u32 = 1_048_576;
 
-/// The greatest number of workers of a run.
-pub const MAX_WORKERS: u32 = 64;
-
 /// What keys the hash.
 #[derive(Debug, Drop, PartialEq, Eq)]
 pub enum KeyChoice {

@@ -93,9 +93,8 @@ fn sum_names<R: Threads + Wait + Sync, G: Gate + Sync, S: Shelf + Send + Sync, O
         (scene_of S.Shelf O.Sink E.Sink desk.old) (scene_of S.Shelf O.Sink E.Sink desk.new) result }
     ensures sure { IfOk result (λ tally. RanSurely (sum_script options.now (map string_bytes names.now))
         (scene_of S.Shelf O.Sink E.Sink desk.old) (scene_of S.Shelf O.Sink E.Sink desk.new) tally) }
-    ensures shelf_count { (scene_of S.Shelf O.Sink E.Sink desk.new).failures
-        ≤ (scene_of S.Shelf O.Sink E.Sink desk.old).failures + keys_asked options.now.key
-        + length names.now }
+    ensures shelf_count { S.failures desk.new.shelf.now
+        ≤ S.failures desk.old.shelf.now + keys_asked options.now.key + length names.now }
     ensures loans { loans desk.new ≡ loans desk.old }
 {
     let mode = find_mode(desk, &options.key)?;
@@ -105,12 +104,12 @@ fn sum_names<R: Threads + Wait + Sync, G: Gate + Sync, S: Shelf + Send + Sync, O
         length: options.length,
     };
     let mut worker = Worker::new(alloc, crew, output, options.limits())?;
-    let mut plan = Names {
+    let mut agenda = Names {
         alloc,
         form: options.form,
         names,
     };
-    worker.run(desk, &mut plan)
+    worker.run(desk, &mut agenda)
 }
 
 // The mode of a choice of key, which may have to be read.

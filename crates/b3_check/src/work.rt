@@ -12,7 +12,7 @@ use crate::crew::Crew;
 use crate::desk::Desk;
 use crate::fault::RunFault;
 use crate::hashing::{Digester, Output};
-use crate::items::{Item, Plan, Subject};
+use crate::items::{Agenda, Item, Subject};
 use crate::options::Limits;
 use crate::said::Said;
 use crate::shelf::Shelf;
@@ -24,7 +24,7 @@ use std::alloc::{AllocError, Global};
 use std::sync::Wait;
 use std::thread::Threads;
 
-/// Does what a plan says. It reads, hashes, writes and counts, item after item.
+/// Does what an agenda says. It reads, hashes, writes and counts, item after item.
 #[derive(Drop)]
 pub struct Worker<'c, R, G> {
     alloc: Global,
@@ -62,27 +62,27 @@ impl<'c, R: Threads + Wait + Sync, G: Gate + Sync> Worker<'c, R, G> {
         })
     }
 
-    /// Does the items of a plan, one after the other.
-    pub fn run<'p, S: Shelf + Send + Sync, O: Sink, E: Sink, P: Plan<'p>>(
+    /// Does the items of an agenda, one after the other.
+    pub fn run<'p, S: Shelf + Send + Sync, O: Sink, E: Sink, P: Agenda<'p>>(
         &mut self,
         desk: &mut Desk<'_, '_, '_, S, O, E>,
-        plan: &mut P,
+        agenda: &mut P,
     ) -> Result<Tally, RunFault>
-        requires fits { P.fits plan.old self.old.digester.output.length ≡ true }
-        requires few { length (P.left plan.old) < 2 ^ 63 }
-        requires room { HasRoom (scene_of S.Shelf O.Sink E.Sink desk.old) (length (P.left plan.old)) }
-        ensures run { Runs self.old.limits (tasks_script self.old.digester.output (P.left plan.old))
+        requires fits { P.fits agenda.old self.old.digester.output.length ≡ true }
+        requires few { length (P.left agenda.old) < 2 ^ 63 }
+        requires room { HasRoom (scene_of S.Shelf O.Sink E.Sink desk.old) (length (P.left agenda.old)) }
+        ensures run { Runs self.old.limits (tasks_script self.old.digester.output (P.left agenda.old))
             (scene_of S.Shelf O.Sink E.Sink desk.old) (scene_of S.Shelf O.Sink E.Sink desk.new) result }
-        ensures count { IfOk result (λ tally. counted tally ≡ length (P.left plan.old)) }
-        ensures shelf_count { (scene_of S.Shelf O.Sink E.Sink desk.new).failures
-            ≤ (scene_of S.Shelf O.Sink E.Sink desk.old).failures + length (P.left plan.old) }
+        ensures count { IfOk result (λ tally. counted tally ≡ length (P.left agenda.old)) }
+        ensures shelf_count { S.failures desk.new.shelf.now
+            ≤ S.failures desk.old.shelf.now + length (P.left agenda.old) }
         ensures loans { loans desk.new ≡ loans desk.old }
         ensures limits { self.new.limits ≡ self.old.limits }
         ensures output { self.new.digester.output ≡ self.old.digester.output }
     {
         let mut tally = Tally::none();
         let mut ahead = Ahead::new(self.alloc);
-        while let Some((item, node)) = self.next(desk, &mut ahead, plan)? {
+        while let Some((item, node)) = self.next(desk, &mut ahead, agenda)? {
             let one = self.run_item(desk, &item, node)?;
             tally.add(&one);
         }
@@ -90,27 +90,26 @@ impl<'c, R: Threads + Wait + Sync, G: Gate + Sync> Worker<'c, R, G> {
     }
 
     // The next item, with its node if that was found.
-    fn next<'p, S: Shelf + Send + Sync, O: Sink, E: Sink, P: Plan<'p>>(
+    fn next<'p, S: Shelf + Send + Sync, O: Sink, E: Sink, P: Agenda<'p>>(
         &mut self,
         desk: &Desk<'_, '_, '_, S, O, E>,
         ahead: &mut Ahead<'p>,
-        plan: &mut P,
+        agenda: &mut P,
     ) -> Result<Option<(Item<'p>, Option<Node>)>, AllocError>
-        requires known { AreKnown (scene_of S.Shelf O.Sink E.Sink desk.now).told self.old.digester.output.mode
-            ahead.old.items.items ahead.old.nodes.items }
-        ensures next { IfOk result (λ next. MatchOption next (tasks_then ahead.old.items.items (P.left plan.old) ≡ [])
-            (λ done. tasks_then ahead.old.items.items (P.left plan.old)
-            ≡ task_of done.0 ∷ tasks_then ahead.new.items.items (P.left plan.new))) }
-        ensures known { OnOk result (AreKnown (scene_of S.Shelf O.Sink E.Sink desk.now).told
+        requires known { AreKnown (S.told desk.now.shelf.now)
+            self.old.digester.output.mode ahead.old.items.items ahead.old.nodes.items }
+        ensures next { IfOk result (λ next. MatchOption next (tasks_then ahead.old.items.items (P.left agenda.old) ≡ [])
+            (λ done. tasks_then ahead.old.items.items (P.left agenda.old)
+            ≡ task_of done.0 ∷ tasks_then ahead.new.items.items (P.left agenda.new))) }
+        ensures known { OnOk result (AreKnown (S.told desk.now.shelf.now)
             self.old.digester.output.mode ahead.new.items.items ahead.new.nodes.items) }
-        ensures node { IfOk result (λ next. IfSome next (λ done.
-            IsKnown (scene_of S.Shelf O.Sink E.Sink desk.now).told self.old.digester.output.mode
-            (task_of done.0) done.1)) }
+        ensures node { IfOk result (λ next. IfSome next (λ done. IsKnown (S.told desk.now.shelf.now)
+            self.old.digester.output.mode (task_of done.0) done.1)) }
         ensures fit { IfOk result (λ next. IfSome next (λ done. (len : ℕ)
-            → All (IsFitItem len) ahead.old.items.items → P.fits plan.old len ≡ true → IsFitItem len done.0)) }
+            → All (IsFitItem len) ahead.old.items.items → P.fits agenda.old len ≡ true → IsFitItem len done.0)) }
         ensures all_fit { OnOk result ((len : ℕ) → All (IsFitItem len) ahead.old.items.items
-            → P.fits plan.old len ≡ true → All (IsFitItem len) ahead.new.items.items) }
-        ensures still_fits { OnOk result ((len : ℕ) → P.fits plan.new len ≡ P.fits plan.old len) }
+            → P.fits agenda.old len ≡ true → All (IsFitItem len) ahead.new.items.items) }
+        ensures still_fits { OnOk result ((len : ℕ) → P.fits agenda.new len ≡ P.fits agenda.old len) }
         ensures limits { self.new.limits ≡ self.old.limits }
         ensures output { self.new.digester.output ≡ self.old.digester.output }
     {
@@ -120,7 +119,7 @@ impl<'c, R: Threads + Wait + Sync, G: Gate + Sync> Worker<'c, R, G> {
             self.hands.as_mut_slice(),
             &*desk.shelf,
             &mode,
-            plan,
+            agenda,
         )
     }
 
@@ -132,14 +131,12 @@ impl<'c, R: Threads + Wait + Sync, G: Gate + Sync> Worker<'c, R, G> {
         node: Option<Node>,
     ) -> Result<Tally, RunFault>
         requires fit { IsFitItem self.old.digester.output.length item.now }
-        requires known { IsKnown (scene_of S.Shelf O.Sink E.Sink desk.old).told self.old.digester.output.mode
-            (task_of item.now) node }
+        requires known { IsKnown (S.told desk.old.shelf.now) self.old.digester.output.mode (task_of item.now) node }
         requires room { HasRoom (scene_of S.Shelf O.Sink E.Sink desk.old) 1 }
         ensures run { Runs self.old.limits (task_script self.old.digester.output (task_of item.now))
             (scene_of S.Shelf O.Sink E.Sink desk.old) (scene_of S.Shelf O.Sink E.Sink desk.new) result }
         ensures one { IfOk result (λ tally. counted tally ≡ 1) }
-        ensures shelf_count { (scene_of S.Shelf O.Sink E.Sink desk.new).failures
-            ≤ (scene_of S.Shelf O.Sink E.Sink desk.old).failures + 1 }
+        ensures shelf_count { S.failures desk.new.shelf.now ≤ S.failures desk.old.shelf.now + 1 }
         ensures loans { loans desk.new ≡ loans desk.old }
         ensures limits { self.new.limits ≡ self.old.limits }
         ensures output { self.new.digester.output ≡ self.old.digester.output }
@@ -165,7 +162,7 @@ impl<'c, R: Threads + Wait + Sync, G: Gate + Sync> Worker<'c, R, G> {
         node: Option<Node>,
     ) -> Result<Said, RunFault>
         requires fit { IsFit self.old.digester.output.length subject.now }
-        requires known { IfSome node (IsNodeOf (scene_of S.Shelf O.Sink E.Sink desk.old).told
+        requires known { IfSome node (IsNodeOf (S.told desk.old.shelf.now)
             self.old.digester.output.mode (name_asked subject.now)) }
         requires room { HasRoom (scene_of S.Shelf O.Sink E.Sink desk.old) 1 }
         ensures gives { Gives self.old.limits self.old.digester.output (name_asked subject.now)

@@ -1,4 +1,4 @@
--- The stack of chaining values: the values of one level more, and how a new chunk's value is merged.
+-- The stack of chaining values: the values of one level more, and how a new subtree's value is merged.
 use Rattle.std.proofs.Common.{◌≡◌, ℕ, zero, suc, ◌+◌, ◌-◌, ◌*◌, ◌/◌, ◌%◌, ◌^◌, ◌<◌, ◌≤◌, List, [], ◌∷◌, ◌++◌, length}
 use Rattle.std.proofs.Common.{inl, inr, refl, sym, ap, ◌∙◌, add-one, arith}
 use Rattle.std.proofs.Math.Nat.{pow-suc}

@@ -118,7 +118,7 @@ is_tagged rest = starts_with nat_eq rest tag
 abbrev pub layout_of : List ℕ → Layout
 layout_of rest = if is_tagged rest then tagged_layout rest else plain_layout rest
 
--- the first refusal that holds of parts that lie so
+-- the first refusal that holds of parts that lie so, in the order of the numbers of `LineFault`, which decide
 abbrev pub refusal_of : Bool → Layout → Option LineFault
 refusal_of marked layout =
     if layout.is_short then Some Short
@@ -133,7 +133,7 @@ refusal_of marked layout =
 unfoldable pub refusal_after_mark : Bool → List ℕ → Option LineFault
 refusal_after_mark marked rest = refusal_of marked (layout_of rest)
 
--- the first refusal that holds of a line
+-- the first refusal that holds of a line, in the same order
 unfoldable pub first_refusal : List ℕ → Option LineFault
 first_refusal line =
     let text = without_return line in

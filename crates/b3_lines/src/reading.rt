@@ -132,7 +132,8 @@ pub fn read_line(alloc: Global, line: &[u8]) -> Result<Line, LineFault>
     })
 }
 
-/// The parts of the line, or the first refusal that holds. It takes no memory.
+/// The parts of the line, or the first refusal that holds, in the order of the numbers of `LineFault`, which decide. It
+/// takes no memory.
 fn accepted(line: &[u8]) -> Result<Parts<'_>, LineFault>
     ensures refused { IfErr result (λ fault. first_refusal line.now ≡ Some fault) }
     ensures taken { IfOk result (λ parts.

@@ -21,10 +21,11 @@ pub fn say_line<K: Sink>(sink: &mut K, text: &str, more: &str) -> bool
     requires { K.failures sink.old < 2 ^ 64 - 1 }
     ensures { IsSaid (sheet K.Sink sink.old) (sheet K.Sink sink.new) (line_of (text.now ++ more.now)) result }
 {
-    write_line(sink, text, more).is_ok()
+    write_both(sink, text, more).is_ok()
 }
 
-fn write_line<K: Sink>(sink: &mut K, text: &str, more: &str) -> Result<(), SinkFailed>
+// Writes a text, what follows it and a line feed.
+fn write_both<K: Sink>(sink: &mut K, text: &str, more: &str) -> Result<(), SinkFailed>
     requires { K.failures sink.old < 2 ^ 64 - 1 }
     ensures count { K.failures sink.new ≡ K.failures sink.old + (if is_err result then 1 else 0) }
     ensures ok { OnOk result (Appends (K.held sink.old) (K.held sink.new) (line_of (text.now ++ more.now))) }

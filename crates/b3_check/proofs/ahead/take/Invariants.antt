@@ -6,13 +6,13 @@ use Rattle.b3_check.proofs.ahead.take.Given as goal
 -- what is left is the same
 abbrev pub invariant-items : goal.invariant-items
 invariant-items g l =
-    let plan = g.P.Plan in
+    let agenda = g.P.Agenda in
     record {
-      left : tasks_then l.items.items (plan.left l.plan) ≡ tasks_then l.fn.items.items (plan.left l.fn.plan);
+      left : tasks_then l.items.items (agenda.left l.agenda) ≡ tasks_then l.fn.items.items (agenda.left l.fn.agenda);
       more : length l.fn.items.items ≤ length l.items.items;
-      fit : (len : ℕ) → All (IsFitItem len) l.fn.items.items → plan.fits l.fn.plan len ≡ true
+      fit : (len : ℕ) → All (IsFitItem len) l.fn.items.items → agenda.fits l.fn.agenda len ≡ true
           → All (IsFitItem len) l.items.items;
-      fits : (len : ℕ) → plan.fits l.plan len ≡ plan.fits l.fn.plan len;
+      fits : (len : ℕ) → agenda.fits l.agenda len ≡ agenda.fits l.fn.agenda len;
     }
 
 abbrev pub decreases-items : goal.decreases-items

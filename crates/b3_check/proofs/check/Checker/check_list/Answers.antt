@@ -36,7 +36,7 @@ pub run-requires : goal.run-requires
 run-requires g c = λ _.
     let answered = rw c.if-not-branch.false at c.in_ok-read_list.ensures.asked in
     let went = answered.went in
-    let few = c.new-plan.ensures.few in
+    let few = c.new-agenda.ensures.few in
     let text = ap (λ (xs : List ℕ). length xs) c.text.ensures in
     let size = c.in_ok-read_list.ensures.largest in
     let ok = c.read_list.new.reader.text.ok.0 in (
@@ -72,7 +72,7 @@ returns-clause-run g c =
     let text = c.read_list.new.reader.text.items in
     let answered = rw c.if-not-branch.false at c.in_ok-read_list.ensures.asked in
     let run = rw (
-      c.new-plan.ensures.lines,
+      c.new-agenda.ensures.lines,
       c.text.ensures,
       checker.output,
       checker.same_limits,
@@ -83,7 +83,7 @@ returns-clause-run g c =
 
 pub returns-clause-count : goal.returns-clause-count
 returns-clause-count g c =
-    let few = c.new-plan.ensures.few in
+    let few = c.new-agenda.ensures.few in
     let text = ap (λ (xs : List ℕ). length xs) c.text.ensures in
     let size = c.in_ok-read_list.ensures.largest in
     let ok = c.read_list.new.reader.text.ok.0 in
@@ -93,7 +93,7 @@ returns-clause-count g c =
 pub returns-clause-shelf_count : goal.returns-clause-shelf_count
 returns-clause-shelf_count g c =
     let answered = rw c.if-not-branch.false at c.in_ok-read_list.ensures.asked in
-    let few = c.new-plan.ensures.few in
+    let few = c.new-agenda.ensures.few in
     let text = ap (λ (xs : List ℕ). length xs) c.text.ensures in
     let size = c.in_ok-read_list.ensures.largest in
     let ok = c.read_list.new.reader.text.ok.0 in

@@ -9,17 +9,17 @@ use Rattle.b3_check.proofs.work.Worker.run.Given as goal
 abbrev pub invariant-loop-ahead : goal.invariant-loop-ahead
 invariant-loop-ahead g l =
     let seen = scene_of g.S.Shelf g.O.Sink g.E.Sink in
-    let plan = g.P.Plan in
-    let left = tasks_then l.ahead.items.items (plan.left l.plan) in
+    let agenda = g.P.Agenda in
+    let left = tasks_then l.ahead.items.items (agenda.left l.agenda) in
     record {
-      so_far : SoFar l.fn.self.digester.output (plan.left l.fn.plan) left (seen l.fn.desk) (seen l.desk) l.tally;
+      so_far : SoFar l.fn.self.digester.output (agenda.left l.fn.agenda) left (seen l.fn.desk) (seen l.desk) l.tally;
       known : AreKnown (seen l.desk).told l.fn.self.digester.output.mode l.ahead.items.items l.ahead.nodes.items;
       fit : All (IsFitItem l.fn.self.digester.output.length) l.ahead.items.items;
-      fits : (len : ℕ) → plan.fits l.plan len ≡ plan.fits l.fn.plan len;
+      fits : (len : ℕ) → agenda.fits l.agenda len ≡ agenda.fits l.fn.agenda len;
       loans : loans l.desk ≡ loans l.fn.desk;
       limits : l.self.limits ≡ l.fn.self.limits;
       output : l.self.digester.output ≡ l.fn.self.digester.output;
     }
 
 abbrev pub decreases-loop-ahead : goal.decreases-loop-ahead
-decreases-loop-ahead g l = length (tasks_then l.ahead.items.items (g.P.Plan.left l.plan))
+decreases-loop-ahead g l = length (tasks_then l.ahead.items.items (g.P.Agenda.left l.agenda))

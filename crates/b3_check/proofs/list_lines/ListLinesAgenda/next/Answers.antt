@@ -3,7 +3,7 @@ use Rattle.std.specs.String.{string_bytes}
 use Rattle.std.proofs.lemmas.List.Elements.{All-rest}
 use Rattle.b3_lines.specs.Lines.{IsWithin}
 use Rattle.b3_check.proofs.CheckLemmas.{line_tasks-read}
-use Rattle.b3_check.proofs.list_lines.ListLinesPlan.next.Goals as goal
+use Rattle.b3_check.proofs.list_lines.ListLinesAgenda.next.Goals as goal
 
 pub invariant_of-self-2 : goal.invariant_of-self-2
 invariant_of-self-2 c =
@@ -15,7 +15,7 @@ invariant_of-self-2 c =
 
 pub returns-in-Ok-clause-next : goal.returns-in-Ok-clause-next
 returns-in-Ok-clause-next c =
-    let plan = c.args.self.now in
-    line_tasks-read plan.quiet plan.number plan.text.now _ plan.places _ c.in-Ok.line.digest
+    let agenda = c.args.self.now in
+    line_tasks-read agenda.quiet agenda.number agenda.text.now _ agenda.places _ c.in-Ok.line.digest
     (string_bytes c.in-Ok.line.name) (string_bytes c.in-Ok.line.shown)
     c.in-Some.ensures.steps c.in-Ok.ensures.read
