@@ -1,11 +1,10 @@
 //! A window of a file, as it is read.
 
-ghost use Rattle.std.specs.Prelude.{◌≡◌, ◌≢◌, ◌+◌, ◌-◌, ◌*◌, ◌^◌, ◌<◌, ◌≤◌, ◌++◌, Ok, false, IsTrue, IsSome, IfErr, OnOk};
+ghost use Rattle.std.specs.Prelude.{◌≡◌, ◌≢◌, ◌+◌, ◌-◌, ◌^◌, ◌<◌, Ok, false, IsTrue, IfErr, OnOk};
 ghost use Rattle.b3_check.specs.Faults.{is_write_fault};
 ghost use Rattle.b3_check.specs.Reading.{IsFaultOfRest};
 ghost use Rattle.b3_check.specs.Scripts.Kind.{Hashed};
-ghost use Rattle.b3_check.specs.Windows.{IsSameSize, failed_reads, filled_bytes};
-ghost use Rattle.b3_check.specs.declared.room.TheConstants.{READ_LEN};
+ghost use Rattle.b3_check.specs.Windows.{IsFullWindow, IsLastWindow, IsSameSize, TakesReads, failed_reads};
 ghost use Rattle.b3_check.specs.declared.window.Found.TheVariants.{Failed, Full, Last};
 
 use crate::buffer::Buffer;
@@ -33,16 +32,11 @@ pub fn fill<S: Shelf>(
 ) -> Result<Found, RunFault>
     requires count { S.failures shelf.old < 2 ^ 64 - 1 }
     requires turns { 0 < limits.old.turns }
-    ensures full { result ≡ Ok Full → buffer.new.filled ≡ buffer.new.len }
-    ensures last { result ≡ Ok Last → buffer.new.filled < buffer.new.len }
-    ensures full_bytes { result ≡ Ok Full → IsSome (S.told shelf.old)
-        → S.left shelf.old ≡ filled_bytes buffer.new ++ S.left shelf.new }
-    ensures last_bytes { result ≡ Ok Last → IsSome (S.told shelf.old) → S.left shelf.old ≡ filled_bytes buffer.new }
+    ensures full { result ≡ Ok Full
+        → IsFullWindow (S.told shelf.old) (S.left shelf.old) (S.left shelf.new) limits.old limits.new buffer.new }
+    ensures last { result ≡ Ok Last → IsLastWindow (S.told shelf.old) (S.left shelf.old) buffer.new }
+    ensures reads { OnOk result (TakesReads limits.old limits.new buffer.new) }
     ensures size { IsSameSize buffer.old buffer.new }
-    ensures turns { result ≡ Ok Full → 0 < limits.new.turns }
-    ensures fewer { OnOk result (limits.new.turns < limits.old.turns) }
-    ensures many { result ≡ Ok Full → limits.old.turns ≤ limits.new.turns + buffer.new.filled }
-    ensures few { OnOk result (buffer.new.filled + READ_LEN * limits.new.turns ≤ READ_LEN * limits.old.turns) }
     ensures fault { IfErr result (λ fault.
         IsFaultOfRest fault (S.told shelf.old) limits.old Hashed (S.left shelf.old)) }
     ensures no_sink { is_write_fault result ≡ false }

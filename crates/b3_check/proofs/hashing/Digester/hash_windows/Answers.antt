@@ -46,10 +46,10 @@ windows-preserved g c =
       stands = push.hashed held.before held.stands;
       full_bytes = λ is told. held.full_bytes is_full told
           ∙ append-window held.before (filled_bytes window) (shelf.left c.windows.shelf) _
-          (read.full_bytes (ap Ok is) (subst IsSome (sym held.told) told));
+          ((read.full (ap Ok is)).bytes (subst IsSome (sym held.told) told));
       last_bytes = λ is told. held.full_bytes is_full told
           ∙ append-window held.before (filled_bytes window) (shelf.left c.windows.shelf) _
-          (read.last_bytes (ap Ok is) (subst IsSome (sym held.told) told));
+          ((read.last (ap Ok is)).bytes (subst IsSome (sym held.told) told));
       sure = λ is_sure is. read.sure (subst IsTrue (sym held.still_sure) is_sure) (ap Ok is);
       mode = push.mode ∙ held.mode;
       output = held.output;
@@ -60,11 +60,11 @@ windows-preserved g c =
           ∙ (λ i. length_of c.windows.hasher % (1024 * 2 ^ level i))
           ∙ held.aligned;
       whole = omega (arith, push.len, held.whole, window.whole);
-      few = omega (arith, push.len, held.few, full, read.few);
-      many = λ is. omega (arith, push.len, many, full, read.many (ap Ok is));
-      full = λ is. read.full (ap Ok is);
-      turns = λ is. read.turns (ap Ok is);
-      last = λ is. read.last (ap Ok is);
+      few = omega (arith, push.len, held.few, full, read.reads.few);
+      many = λ is. omega (arith, push.len, many, full, (read.full (ap Ok is)).many);
+      full = λ is. (read.full (ap Ok is)).full;
+      turns = λ is. (read.full (ap Ok is)).turns;
+      last = λ is. (read.last (ap Ok is)).short;
       count = search (rules, arith);
       told = read.told ∙ held.told;
       still_sure = read.still_sure ∙ held.still_sure;
