@@ -83,7 +83,7 @@ impl<'c, R: Threads + Wait + Sync, G: Gate + Sync> Worker<'c, R, G> {
         let mut tally = Tally::none();
         let mut ahead = Ahead::new(self.alloc);
         while let Some((item, node)) = self.next(desk, &mut ahead, agenda)? {
-            let one = self.run_item(desk, &item, node)?;
+            let one = self.run_item(desk, item, node)?;
             tally.add(&one);
         }
         Ok(tally)
@@ -127,13 +127,13 @@ impl<'c, R: Threads + Wait + Sync, G: Gate + Sync> Worker<'c, R, G> {
     fn run_item<S: Shelf + Send + Sync, O: Sink, E: Sink>(
         &mut self,
         desk: &mut Desk<'_, '_, '_, S, O, E>,
-        item: &Item<'_>,
+        item: Item<'_>,
         node: Option<Node>,
     ) -> Result<Tally, RunFault>
-        requires fit { IsFitItem self.old.digester.output.length item.now }
-        requires known { IsKnown (S.told desk.old.shelf.now) self.old.digester.output.mode (task_of item.now) node }
+        requires fit { IsFitItem self.old.digester.output.length item }
+        requires known { IsKnown (S.told desk.old.shelf.now) self.old.digester.output.mode (task_of item) node }
         requires room { HasRoom (scene_of S.Shelf O.Sink E.Sink desk.old) 1 }
-        ensures run { Runs self.old.limits (task_script self.old.digester.output (task_of item.now))
+        ensures run { Runs self.old.limits (task_script self.old.digester.output (task_of item.entry))
             (scene_of S.Shelf O.Sink E.Sink desk.old) (scene_of S.Shelf O.Sink E.Sink desk.new) result }
         ensures one { IfOk result (λ tally. counted tally ≡ 1) }
         ensures shelf_count { S.failures desk.new.shelf.now ≤ S.failures desk.old.shelf.now + 1 }
@@ -143,11 +143,11 @@ impl<'c, R: Threads + Wait + Sync, G: Gate + Sync> Worker<'c, R, G> {
     {
         match item {
             Item::Say(said) => {
-                desk.say(said)?;
+                desk.say(&said)?;
                 Ok(said.tally)
             }
             Item::Ask(subject) => {
-                let said = self.find(desk, subject, node)?;
+                let said = self.find(desk, &subject, node)?;
                 desk.say(&said)?;
                 Ok(said.tally)
             }

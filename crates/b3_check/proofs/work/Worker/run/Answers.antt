@@ -39,48 +39,6 @@ returns-in_err-one-clause-run g c =
     let stopped = rw (item.limits, held.limits, item.output, held.output) at c.in_err-one.ensures.run in
     rw (p.1, p.2) (so_far_stopped (task_of c.in-Some.item) so_far stopped)
 
-pub loop-ahead-preserved-in_ok-one : goal.loop-ahead-preserved-in_ok-one
-loop-ahead-preserved-in_ok-one g c =
-    let held = c.loop-ahead.invariant in
-    let item = c.in_ok-item.ensures in
-    let done = c.in_ok-one.ensures in
-    let len = c.args.self.now.digester.output.length in
-    let next = rw c.in-Some.is at item.next in
-    let so_far = rw next at held.so_far in
-    let ran = rw (item.output, held.output) at done.run in
-    let known = rw held.output at item.known in
-    record {
-      so_far = rw c.add.ensures (so_far_more (task_of c.in-Some.item) so_far ran done.one done.shelf_count);
-      known = subst (λ (t : Option Contents). AreKnown t c.args.self.now.digester.output.mode
-          c.next.new.ahead.items.items c.next.new.ahead.nodes.items) (sym done.run.went.heard.told) known;
-      fit = item.all_fit len held.fit (held.fits len ∙ c.requires.fits);
-      fits = λ n. item.still_fits n ∙ held.fits n;
-      loans = done.loans ∙ held.loans;
-      limits = done.limits ∙ item.limits ∙ held.limits;
-      output = done.output ∙ item.output ∙ held.output;
-    }
-
-pub loop-ahead-preserved-in_ok-one-2 : goal.loop-ahead-preserved-in_ok-one-2
-loop-ahead-preserved-in_ok-one-2 g c =
-    let held = c.loop-ahead.invariant in
-    let item = c.in_ok-item.ensures in
-    let done = c.in_ok-one.ensures in
-    let len = c.args.self.now.digester.output.length in
-    let next = rw c.in-Some.is at item.next in
-    let so_far = rw next at held.so_far in
-    let ran = rw (item.output, held.output) at done.run in
-    let known = rw held.output at item.known in
-    record {
-      so_far = rw c.add.ensures (so_far_more (task_of c.in-Some.item) so_far ran done.one done.shelf_count);
-      known = subst (λ (t : Option Contents). AreKnown t c.args.self.now.digester.output.mode
-          c.next.new.ahead.items.items c.next.new.ahead.nodes.items) (sym done.run.went.heard.told) known;
-      fit = item.all_fit len held.fit (held.fits len ∙ c.requires.fits);
-      fits = λ n. item.still_fits n ∙ held.fits n;
-      loans = done.loans ∙ held.loans;
-      limits = done.limits ∙ item.limits ∙ held.limits;
-      output = done.output ∙ item.output ∙ held.output;
-    }
-
 pub loop-ahead-preserved : goal.loop-ahead-preserved
 loop-ahead-preserved g c =
     let held = c.loop-ahead.invariant in

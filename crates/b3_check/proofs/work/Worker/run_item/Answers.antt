@@ -1,6 +1,7 @@
 use Rattle.std.proofs.Common.{refl, inl}
 use Rattle.std.proofs.lemmas.Result.{err_from_is_err_and}
-use Rattle.b3_check.specs.Tasks.{subject_report}
+use Rattle.b3_check.specs.Tasks.{report_of, subject_report}
+use Rattle.b3_check.proofs.RunLemmas.{ran_said}
 use Rattle.b3_check.proofs.TaskLemmas.{ran_find, stopped_find}
 use Rattle.b3_check.proofs.work.Worker.run_item.Goals as goal
 
@@ -15,3 +16,6 @@ pub returns-in_ok-say-in-Ask-clause-run : goal.returns-in_ok-say-in-Ask-clause-r
 returns-in_ok-say-in-Ask-clause-run g c =
     rw c.in-Ask.is
     (ran_find (subject_report c.in-Ask.subject) c.in_ok-said-in-Ask.ensures.gives c.in_ok-say-in-Ask.ensures.said refl)
+
+pub returns-in_ok-say-in-Say-clause-run : goal.returns-in_ok-say-in-Say-clause-run
+returns-in_ok-say-in-Say-clause-run g c = rw c.in-Say.is (ran_said (report_of c.in-Say.said) c.in_ok-say-in-Say.ensures.said refl)
