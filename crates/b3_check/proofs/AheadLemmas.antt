@@ -1,5 +1,5 @@
 -- Reading ahead: a scene in which a name is opened, and runs that stop there.
-use Rattle.std.proofs.Common.{◌≡◌, ◌⊎◌, ℕ, ◌-◌, ◌≤◌, Bool, true, List, [], ◌∷◌, ◌++◌, Option, Some, None, refl, ap, subst, inr, arith}
+use Rattle.std.proofs.Common.{◌≡◌, ◌⊎◌, ℕ, ◌-◌, ◌≤◌, Bool, true, List, [], ◌∷◌, ◌++◌, Option, Some, None, Err, refl, ap, subst, inr, arith}
 use Rattle.std.specs.Prelude.{IfSome, MatchOption}
 use Rattle.b3_check.specs.Contents.{Contents}
 use Rattle.b3_check.specs.Digests.{digest_of}
@@ -13,7 +13,7 @@ use Rattle.b3_check.specs.declared.options.Limits.{Limits}
 use Rattle.b3_check.specs.Ahead.{HasOpened, IsAhead, first_name, item_tasks, opened_failures, tasks_left, unopened}
 use Rattle.b3_check.specs.Reading.{Answered}
 use Rattle.b3_check.specs.Runs.{Broke, Heard, Scene, Stopped, Went, sink_failures}
-use Rattle.b3_check.specs.Scripts.{Answer, AnswersFirst, Report, report, unread}
+use Rattle.b3_check.specs.Scripts.{Answer, AnswersFirst, Given, Report, report, unread}
 use Rattle.b3_check.specs.Scripts.Kind.{Hashed}
 use Rattle.b3_check.specs.Tasks.{IsFitItem, Task, task_of, tasks_script}
 use Rattle.b3_check.specs.Tasks.Task.{Tell, Find}
@@ -25,14 +25,14 @@ use Rattle.b3_check.proofs.ScriptLemmas.{AnswersFirst-none, nothing-joined}
 -- a name that cannot be read is answered by that; any other is not answered yet
 abbrev pub opened_answers : Option Opened → List Answer
 opened_answers None = []
-opened_answers (Some Failed) = None ∷ []
+opened_answers (Some (Failed why)) = Err why ∷ []
 opened_answers (Some (StoppedAt fault)) = []
 opened_answers (Some (Begun left)) = []
 opened_answers (Some Whole) = []
 
 unread-opened_answers : (opened : Option Opened) → unread (opened_answers opened) ≡ opened_failures opened
 unread-opened_answers None = refl
-unread-opened_answers (Some Failed) = refl
+unread-opened_answers (Some (Failed why)) = refl
 unread-opened_answers (Some (StoppedAt fault)) = refl
 unread-opened_answers (Some (Begun left)) = refl
 unread-opened_answers (Some Whole) = refl
@@ -46,7 +46,7 @@ AnswersFirst-opened_answers told sure limits output filled rest tasks None is =
     AnswersFirst-none told sure (tasks_script output tasks)
 AnswersFirst-opened_answers told sure limits output filled rest [] (Some opened) is = absurd is
 AnswersFirst-opened_answers told sure limits output filled rest (Tell said ∷ tasks) (Some opened) is = absurd is
-AnswersFirst-opened_answers told sure limits output filled rest (Find name says ∷ tasks) (Some Failed) is =
+AnswersFirst-opened_answers told sure limits output filled rest (Find name says ∷ tasks) (Some (Failed why)) is =
     (is, AnswersFirst-none told sure (tasks_script output tasks))
 AnswersFirst-opened_answers told sure limits output filled rest (Find name says ∷ tasks) (Some (StoppedAt fault)) is =
     tt
@@ -125,7 +125,7 @@ stopped_opened {limits} {a} {fault} {filled} {rest} output tasks opened ahead re
 
 -- a run stops in saying what the answer to a name gives, where the next one is opened
 pub stopped_ahead : {limits : Limits} {a b c : Scene} {fault : RunFault} (output : Output) {name : List ℕ}
-    {filled rest : List ℕ} (says : Option (List ℕ) → Report) (answer : Answer) (behind : List Task)
+    {filled rest : List ℕ} (says : Given (List ℕ) → Report) (answer : Answer) (behind : List Task)
     (opened : Option Opened)
     → Answered Hashed name answer a (unopened opened b) → Broke b c [] (says (digest_of output answer)) fault
     → IsAhead limits b filled rest (first_name behind) opened → (fault ≡ WriteFault) ⊎ (fault ≡ Memory)

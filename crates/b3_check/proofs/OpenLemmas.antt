@@ -1,6 +1,6 @@
 -- Opening a name: what is read of its first window, and what it answers.
-use Rattle.std.proofs.Common.{◌≡◌, ◌≢◌, ◌⊎◌, ℕ, ◌+◌, ◌≤◌, Bool, true, false, IsSome, List, [], ◌∷◌, length, Option, Some, None, Result, Ok, Err, refl, sym, ◌∙◌, ap, subst, inl, inr, length-append, arith}
-use Rattle.std.specs.Prelude.{IfOk, IfErr, if◌then◌else◌}
+use Rattle.std.proofs.Common.{◌≡◌, ◌≢◌, ◌⊎◌, ℕ, ◌+◌, ◌≤◌, Bool, IsSome, List, [], ◌∷◌, length, Option, Some, None, Result, Ok, Err, refl, sym, ◌∙◌, ap, subst, inl, inr, length-append, arith}
+use Rattle.std.specs.Prelude.{⊤, IfOk, IfErr, is_err, if◌then◌else◌}
 use Rattle.b3_check.specs.declared.fault.RunFault.{RunFault}
 use Rattle.b3_check.specs.declared.hashing.Output.{Output}
 use Rattle.b3_check.specs.declared.fault.RunFault.TheVariants.{ReadFault, WriteFault, Memory, BadKey, EndlessInput}
@@ -16,7 +16,7 @@ use Rattle.b3_check.specs.Contents.{Contents, HasContent}
 use Rattle.b3_check.specs.Digests.{digest_of}
 use Rattle.b3_check.specs.Reading.{IsDigestOf, IsFaultOfRest, IsOutputOf, IsReadingFault, found_if}
 use Rattle.b3_check.specs.Runs.{Scene, Sheet, sink_failures}
-use Rattle.b3_check.specs.Scripts.{Answer, unread}
+use Rattle.b3_check.specs.Scripts.{Answer, Given, unread}
 use Rattle.b3_check.specs.Scripts.Kind.{Hashed}
 use Rattle.b3_check.specs.Windows.{content_of}
 use Rattle.b3_check.proofs.ReadLemmas.{later_fault, rest_fault}
@@ -71,12 +71,12 @@ output_of_content is output = record {
 -- ---- a name hashed, in a scene
 
 -- whether the name is answered is told by whether a digest is found
-unread-found : (output : Output) (whole : Bool) (digest : List ℕ) (answer : Answer)
-    → found_if whole digest ≡ digest_of output answer → unread (answer ∷ []) ≡ (if whole then 0 else 1)
-unread-found output true digest None is = absurd (cc is)
-unread-found output true digest (Some content) is = refl
-unread-found output false digest None is = refl
-unread-found output false digest (Some content) is = absurd (cc is)
+unread-found : (output : Output) (whole : Given ⊤) (digest : List ℕ) (answer : Answer)
+    → found_if whole digest ≡ digest_of output answer → unread (answer ∷ []) ≡ (if is_err whole then 1 else 0)
+unread-found output (Ok _) digest (Err why) is = absurd (cc is)
+unread-found output (Ok _) digest (Ok content) is = refl
+unread-found output (Err why) digest (Err other) is = refl
+unread-found output (Err why) digest (Ok content) is = absurd (cc is)
 
 -- a name is read by no sink
 sinks-reading : (told : Option Contents) (limits : Limits) (name : List ℕ) (fault : RunFault)
@@ -88,7 +88,7 @@ sinks-reading told limits name BadKey cause = absurd cause
 sinks-reading told limits name EndlessInput cause = refl
 
 pub hashes_ahead : (limits : Limits) (output : Output) (name digest : List ℕ) (a b : Scene) (ahead : Option Opened)
-    (result : Result (Bool × Option Opened) RunFault)
+    (result : Result (Given ⊤ × Option Opened) RunFault)
     → b.told ≡ a.told → b.sure ≡ a.sure → b.out ≡ a.out → b.err ≡ a.err
     → b.failures + opened_failures ahead ≡ a.failures + hash_failures result → opened_failures ahead ≤ a.failures
     → IfOk result (λ done. IsDigestOf a.told a.sure name output (found_if done.0 digest))
@@ -129,7 +129,7 @@ hashes_ahead limits output name digest a b ahead (Err why) told sure out err cou
 
 -- the name behind it is opened, and its failure is counted in the scene
 pub ahead_hashed : (limits : Limits) (filled rest : List ℕ) (next : Option (List ℕ)) (a b : Scene)
-    (ahead : Option Opened) (result : Result (Bool × Option Opened) RunFault)
+    (ahead : Option Opened) (result : Result (Given ⊤ × Option Opened) RunFault)
     → b.told ≡ a.told → b.sure ≡ a.sure
     → b.failures + opened_failures ahead ≡ a.failures + hash_failures result → opened_failures ahead ≤ a.failures
     → IfOk result (λ done. HasOpened a.told a.sure limits filled rest next done.1)
@@ -141,7 +141,7 @@ ahead_hashed limits filled rest next a b ahead (Err fault) told sure count withi
 -- a name fails once at most
 pub opened_once : (opened : Option Opened) → opened_failures opened ≤ 1
 opened_once None = omega arith
-opened_once (Some Failed) = omega arith
+opened_once (Some (Failed why)) = omega arith
 opened_once (Some (StoppedAt fault)) = omega arith
 opened_once (Some (Begun left)) = omega arith
 opened_once (Some Whole) = omega arith

@@ -1,6 +1,5 @@
 -- Tasks: their scripts, runs of the tasks so far, and those of one.
-use Rattle.std.proofs.Common.{◌≡◌, ℕ, ◌+◌, ◌≤◌, ◌&&◌, Bool, true, false, if◌then◌else◌, List, [], ◌∷◌, ◌++◌, length, map, Option, Some, None, Result, Ok, Err, codes, refl, sym, ◌∙◌, ap, subst, append_assoc, length-append, arith}
-use Rattle.std.specs.String.{string_bytes}
+use Rattle.std.proofs.Common.{◌≡◌, ℕ, ◌+◌, ◌≤◌, ◌&&◌, Bool, true, false, if◌then◌else◌, List, [], ◌∷◌, ◌++◌, length, map, Option, Result, Ok, Err, codes, refl, sym, ◌∙◌, ap, subst, append_assoc, length-append, arith}
 use Rattle.std.proofs.lemmas.List.{append-nil, map-append}
 use Rattle.b3_check.specs.declared.tally.Tally.{Tally}
 use Rattle.b3_check.specs.declared.fault.RunFault.{RunFault}
@@ -8,18 +7,19 @@ use Rattle.b3_check.specs.declared.hashing.Output.{Output}
 use Rattle.b3_check.specs.declared.items.Subject.{Subject}
 use Rattle.b3_check.specs.declared.items.Subject.TheVariants.{Line, Name}
 use Rattle.b3_check.specs.declared.judging.Verdict.{Verdict}
-use Rattle.b3_check.specs.declared.judging.Verdict.TheVariants.{Good, Differs, Unreadable}
+use Rattle.b3_check.specs.declared.judging.Verdict.TheVariants.{Good, Differs, Missing, Unreadable}
 use Rattle.b3_check.specs.Contents.{Contents}
-use Rattle.b3_check.specs.Checks.{verdict_on, verdict_report}
+use Rattle.b3_check.specs.Checks.{verdict_on, verdict_tally}
+use Rattle.b3_check.specs.declared.options.CheckOptions.{CheckOptions}
 use Rattle.b3_check.specs.declared.options.Form.{Form}
 use Rattle.b3_check.specs.declared.options.Limits.{Limits}
 use Rattle.b3_check.specs.declared.said.Said.{Said}
 use Rattle.b3_check.specs.Digests.{digest_of, digest_script}
 use Rattle.b3_check.specs.Runs.{HasRoom, Ran, Runs, Scene, Stopped, Went}
-use Rattle.b3_check.specs.Scripts.{Answer, AnswersFirst, Report, followed_by, in_turn, unread}
+use Rattle.b3_check.specs.Scripts.{Answer, AnswersFirst, Given, Report, followed_by, in_turn, unread}
 use Rattle.b3_check.specs.Scripts.Script.{Done, Say}
 use Rattle.b3_check.specs.Sums.{failed_report, is_bad_name, name_report, name_script, names_script, shows_name}
-use Rattle.b3_check.specs.Tallies.{counted, no_tally, tally_sum}
+use Rattle.b3_check.specs.Tallies.{counted, no_tally, one_missing, one_unreadable, tally_sum}
 use Rattle.b3_check.specs.Tasks.{Gave, Task, name_task, report_of, subject_report, task_script, tasks_script}
 use Rattle.b3_check.specs.Tasks.Task.{Tell, Find}
 use Rattle.b3_check.proofs.RunLemmas.{ran_answered, ran_done, ran_said, ran_then, ran_then_stopped, stopped_early}
@@ -29,7 +29,7 @@ use Rattle.b3_check.proofs.ScriptLemmas.{in_turn-append, in_turn-more}
 
 -- a name is answered, and what its digest gives is said
 pub ran_find : {a b c : Scene} {m : Tally} {output : Output} {name : List ℕ} {said : Said}
-    (says : Option (List ℕ) → Report)
+    (says : Given (List ℕ) → Report)
     → Gave output name says a b said → Went b c [] (report_of said) → m ≡ said.tally
     → Ran (digest_script output name says) a c m
 ran_find {a} {b} {c} {m} {output} {name} {said} says gave went is =
@@ -38,22 +38,23 @@ ran_find {a} {b} {c} {m} {output} {name} {said} says gave went is =
     (ran_said (says (digest_of output gave.answer)) (subst P gave.is went) (is ∙ ap (λ q. q.tally) gave.is))
 
 -- what is said of a name counts one
-pub counted-name_report : (form : Form) (name : List ℕ) (digest : Option (List ℕ))
+pub counted-name_report : (form : Form) (name : List ℕ) (digest : Given (List ℕ))
     → counted (name_report form name digest).tally ≡ 1
-counted-name_report form name None = refl
-counted-name_report form name (Some digest) = refl
+counted-name_report form name (Err why) = refl
+counted-name_report form name (Ok digest) = refl
 
-counted-verdict_report : (quiet : Bool) (shown : List ℕ) (verdict : Verdict)
-    → counted (verdict_report quiet shown verdict).tally ≡ 1
-counted-verdict_report quiet shown Good = refl
-counted-verdict_report quiet shown Differs = refl
-counted-verdict_report quiet shown Unreadable = refl
+counted-verdict_tally : (options : CheckOptions) (verdict : Verdict) → counted (verdict_tally options verdict) ≡ 1
+counted-verdict_tally options Good = refl
+counted-verdict_tally options Differs = refl
+counted-verdict_tally options Unreadable = refl
+counted-verdict_tally options Missing =
+    elim options.ignore_missing as (λ b. counted (if b then one_missing else one_unreadable) ≡ 1)
+    [ true ↦ refl | false ↦ refl ]
 
-pub counted-subject_report : (subject : Subject) (digest : Option (List ℕ))
+pub counted-subject_report : (subject : Subject) (digest : Given (List ℕ))
     → counted (subject_report subject digest).tally ≡ 1
 counted-subject_report (Name form name) digest = counted-name_report form name.now digest
-counted-subject_report (Line quiet line) digest = counted-verdict_report quiet (string_bytes line.shown)
-    (verdict_on line.digest digest)
+counted-subject_report (Line options line) digest = counted-verdict_tally options (verdict_on line.digest digest)
 
 -- ---- how many names cannot be read
 
@@ -65,9 +66,9 @@ unread-tasks_script told sure output [] (x ∷ xs) first = absurd first
 unread-tasks_script told sure output (Tell said ∷ tasks) xs first =
     omega (arith, unread-tasks_script told sure output tasks xs first)
 unread-tasks_script told sure output (Find name says ∷ tasks) [] first = omega arith
-unread-tasks_script told sure output (Find name says ∷ tasks) (None ∷ xs) first =
+unread-tasks_script told sure output (Find name says ∷ tasks) (Err why ∷ xs) first =
     omega (arith, unread-tasks_script told sure output tasks xs first.1)
-unread-tasks_script told sure output (Find name says ∷ tasks) (Some content ∷ xs) first =
+unread-tasks_script told sure output (Find name says ∷ tasks) (Ok content ∷ xs) first =
     omega (arith, unread-tasks_script told sure output tasks xs first.1)
 
 pub tasks_failures : (limits : Limits) (output : Output) (tasks : List Task) (a b : Scene)

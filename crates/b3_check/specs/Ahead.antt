@@ -1,6 +1,6 @@
 -- Reading ahead: what came of a name that is opened before the run comes to it, and the scene as if it had
 -- not been opened.
-use Rattle.std.specs.Prelude.{◌≡◌, ◌≢◌, ⊤, ℕ, ◌+◌, ◌-◌, ◌*◌, ◌<◌, ◌≤◌, ◌++◌, Bool, if◌then◌else◌, IsSome, List, [], ◌∷◌, Option, None, Some, Result, Ok, Err, length}
+use Rattle.std.specs.Prelude.{◌≡◌, ◌≢◌, ⊤, ℕ, ◌+◌, ◌-◌, ◌*◌, ◌<◌, ◌≤◌, ◌++◌, Bool, if◌then◌else◌, IsSome, List, [], ◌∷◌, Option, None, Some, Result, Ok, Err, is_err, length}
 use Rattle.std.specs.Borrow.{Bor}
 use Rattle.std.specs.Option.{option_copied}
 use Rattle.b3_check.specs.declared.buffer.TheConstants.{WINDOW_LEN}
@@ -18,7 +18,7 @@ use Rattle.b3_check.specs.declared.window.Found.TheVariants.{Failed as Unread, L
 use Rattle.b3_check.specs.Contents.{Contents, HasContent}
 use Rattle.b3_check.specs.Reading.{Digested, IsReadingFault, Unanswered, found_if}
 use Rattle.b3_check.specs.Runs.{Ran, Scene, Stopped}
-use Rattle.b3_check.specs.Scripts.{AgreesWith, Report}
+use Rattle.b3_check.specs.Scripts.{AgreesWith, Given, Report}
 use Rattle.b3_check.specs.Scripts.Kind.{Hashed}
 use Rattle.b3_check.specs.Tasks.{Gave, Task, task_of, task_script, tasks_script}
 use Rattle.b3_check.specs.Tasks.Task.{Tell, Find}
@@ -28,7 +28,7 @@ use Rattle.b3_check.specs.Tasks.Task.{Tell, Find}
 -- how many failures of the shelf opening a name came to
 abbrev pub opened_failures : Option Opened → ℕ
 opened_failures None = 0
-opened_failures (Some Failed) = 1
+opened_failures (Some (Failed why)) = 1
 opened_failures (Some (StoppedAt fault)) = 0
 opened_failures (Some (Begun left)) = 0
 opened_failures (Some Whole) = 0
@@ -64,7 +64,7 @@ pub record IsWhole (told : Option Contents) (name filled : List ℕ) : Type 0 wh
 
 -- what came of opening a name, what is filled of its first window, and what is left on the shelf
 abbrev pub IsOpened : Option Contents → Bool → Limits → List ℕ → List ℕ → List ℕ → Opened → Type 0
-IsOpened told sure limits name filled rest Failed = AgreesWith told sure Hashed name None
+IsOpened told sure limits name filled rest (Failed why) = AgreesWith told sure Hashed name (Err why)
 IsOpened told sure limits name filled rest (StoppedAt fault) = IsReadingFault fault told limits Hashed name
 IsOpened told sure limits name filled rest (Begun left) = IsBegun told limits left name filled rest
 IsOpened told sure limits name filled rest Whole = IsWhole told name filled
@@ -86,13 +86,18 @@ pub record IsFirst (told : Option Contents) (sure : Bool) (limits left : Limits)
     (found : Found) : Type 0 where
   pub more : found ≡ More → IsBegun told limits left name filled rest × (WINDOW_LEN < length filled)
   pub last : found ≡ Last → IsWhole told name filled
-  pub failed : found ≡ Unread → AgreesWith told sure Hashed name None
+  pub read : found ≢ Unread
   pub fewer : left.turns ≤ limits.turns
-  pub little : found ≢ Unread → length filled ≤ WINDOW_LEN + READ_LEN
+  pub little : length filled ≤ WINDOW_LEN + READ_LEN
 
--- how many names cannot be read, of one that is hashed and of one that is opened behind it
-abbrev pub hash_failures : Result (Bool × Option Opened) RunFault → ℕ
-hash_failures (Ok done) = (if done.0 then 0 else 1) + opened_failures done.1
+-- how many names were not read, of one whose first window was asked for
+abbrev pub first_failures : {T : Type 0} → Result (Given T) RunFault → ℕ
+first_failures (Ok read) = if is_err read then 1 else 0
+first_failures (Err fault) = 0
+
+-- how many names were not read, of one that is hashed and of one that is opened behind it
+abbrev pub hash_failures : Result (Given ⊤ × Option Opened) RunFault → ℕ
+hash_failures (Ok done) = (if is_err done.0 then 1 else 0) + opened_failures done.1
 hash_failures (Err fault) = 0
 
 -- how many names cannot be read, of one of which the rest is hashed and of one that is opened behind it
@@ -107,8 +112,8 @@ last_failures (Ok done) = opened_failures done.1
 last_failures (Err fault) = 0
 
 -- a name is asked for, and its digest; what was opened behind it is left out of the scene
-abbrev pub HashesAhead : Output → Limits → List ℕ → Scene → Scene → List ℕ → Result (Bool × Option Opened) RunFault
-    → Type 0
+abbrev pub HashesAhead : Output → Limits → List ℕ → Scene → Scene → List ℕ
+    → Result (Given ⊤ × Option Opened) RunFault → Type 0
 HashesAhead output limits name before after digest (Ok done) =
     Digested output name (found_if done.0 digest) before (unopened done.1 after)
 HashesAhead output limits name before after digest (Err fault) = Unanswered Hashed limits name before after fault
@@ -141,7 +146,7 @@ first_name (task ∷ tasks) = task_name task
 
 -- a name is answered, and what is to be said is what its digest gives; at a fault the task behind it may
 -- have been answered too
-abbrev pub GivesAhead : Limits → Output → List ℕ → (Option (List ℕ) → Report) → List Task → Scene → Scene
+abbrev pub GivesAhead : Limits → Output → List ℕ → (Given (List ℕ) → Report) → List Task → Scene → Scene
     → Result (Said × Option Opened) RunFault → Type 0
 GivesAhead limits output name says behind before after (Ok done) =
     Gave output name says before (unopened done.1 after) done.0

@@ -16,11 +16,6 @@ failed_reads (Ok Last) = 0
 failed_reads (Ok Failed) = 1
 failed_reads (Err _) = 0
 
--- what reading one came to, of an answer that says more
-abbrev pub read_to : {T E : Type 0} → Result (Found × T) E → Result Found E
-read_to (Ok read) = Ok read.0
-read_to (Err fault) = Err fault
-
 -- what comes behind the windows before: what is filled, and what is left unless the file ended
 abbrev pub content_of : Found → List ℕ → List ℕ → List ℕ
 content_of More filled rest = filled ++ rest

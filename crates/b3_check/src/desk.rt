@@ -17,7 +17,7 @@ use crate::lists::ListReader;
 use crate::opened::Opened;
 use crate::options::Limits;
 use crate::said::Said;
-use crate::shelf::Shelf;
+use crate::shelf::{NoContent, Shelf};
 use crate::sink::Sink;
 use crate::writing::write_all;
 use b3_board::Gate;
@@ -48,8 +48,9 @@ impl<'s, 'o, 'e, S, O, E> Drop for Desk<'s, 'o, 'e, S, O, E> {
 impl<'s, 'o, 'e, S: Shelf + Send, O: Sink, E: Sink> Desk<'s, 'o, 'e, S, O, E> {
     ghost use Rattle.b3_check.specs.Desks.{left_of, loans, scene_of};
 
-    /// Hashes the content of a name, of which `ahead` was opened, and answers whether it can be read. The
-    /// name `next` may be opened while the end of the content is hashed, and what came of it is answered too.
+    /// Hashes the content of a name, of which `ahead` was opened, and answers whether it can be read, or why
+    /// not. The name `next` may be opened while the end of the content is hashed, and what came of it is
+    /// answered too.
     pub fn hash<R: Threads + Wait + Sync, G: Gate + Sync>(
         &mut self,
         crew: &Crew<'_, R, G>,
@@ -58,7 +59,7 @@ impl<'s, 'o, 'e, S: Shelf + Send, O: Sink, E: Sink> Desk<'s, 'o, 'e, S, O, E> {
         ahead: Option<Opened>,
         next: Option<&str>,
         limits: Limits,
-    ) -> Result<(bool, Option<Opened>), RunFault>
+    ) -> Result<(Result<(), NoContent>, Option<Opened>), RunFault>
         requires ahead { IsAhead limits (scene_of S.Shelf O.Sink E.Sink self.old) (filled_bytes digester.old.current)
             (left_of S.Shelf self.old) (Some name.now) ahead }
         requires room { HasRoom (unopened ahead (scene_of S.Shelf O.Sink E.Sink self.old)) 1 }
@@ -75,8 +76,8 @@ impl<'s, 'o, 'e, S: Shelf + Send, O: Sink, E: Sink> Desk<'s, 'o, 'e, S, O, E> {
         digester.hash_name(crew, self.shelf, name, ahead, next, limits)
     }
 
-    /// Reads the key, or answers nothing where it cannot be read.
-    pub fn read_key(&mut self) -> Option<KeyRead>
+    /// Reads the key, or answers why it cannot be read.
+    pub fn read_key(&mut self) -> Result<KeyRead, NoContent>
         requires { HasRoom (scene_of S.Shelf O.Sink E.Sink self.old) 1 }
         ensures answered { Answered Key key_name (key_answer result) (scene_of S.Shelf O.Sink E.Sink self.old)
             (scene_of S.Shelf O.Sink E.Sink self.new) }
@@ -85,13 +86,13 @@ impl<'s, 'o, 'e, S: Shelf + Send, O: Sink, E: Sink> Desk<'s, 'o, 'e, S, O, E> {
         KeyRead::read(self.shelf)
     }
 
-    /// Reads a list, and answers whether it can be read.
+    /// Reads a list, and answers whether it can be read, or why not.
     pub fn read_list(
         &mut self,
         reader: &mut ListReader,
         name: &str,
         limits: Limits,
-    ) -> Result<bool, RunFault>
+    ) -> Result<Result<(), NoContent>, RunFault>
         requires { HasRoom (scene_of S.Shelf O.Sink E.Sink self.old) 1 }
         ensures asked { Asks Listed limits name.now (scene_of S.Shelf O.Sink E.Sink self.old)
             (scene_of S.Shelf O.Sink E.Sink self.new) reader.new.text.items result }

@@ -21,7 +21,7 @@ use crate::fault::RunFault;
 use crate::opened::{Opened, first_window, open};
 use crate::options::Limits;
 use crate::room::zeros;
-use crate::shelf::Shelf;
+use crate::shelf::{NoContent, Shelf};
 use crate::window::{Found, fill};
 use b3_board::Gate;
 use b3_core::{CHUNK_LEN, Mode, Node, top};
@@ -80,9 +80,9 @@ impl Digester {
     }
 
     /// Hashes the content of a name (BLAKE3 (2020), 2.6), of which `ahead` was opened, and answers whether
-    /// it can be read. The name `next` may be opened while the last window is hashed, and what came of it is
-    /// answered too. A run fault comes where the content has not ended after as many reads as `limits` allow,
-    /// and where memory is refused.
+    /// it can be read, or why not. The name `next` may be opened while the last window is hashed, and what
+    /// came of it is answered too. A run fault comes where the content has not ended after as many reads as
+    /// `limits` allow, and where memory is refused.
     pub fn hash_name<R: Threads + Wait + Sync, G: Gate + Sync, S: Shelf + Send>(
         &mut self,
         crew: &Crew<'_, R, G>,
@@ -91,7 +91,7 @@ impl Digester {
         ahead: Option<Opened>,
         next: Option<&str>,
         limits: Limits,
-    ) -> Result<(bool, Option<Opened>), RunFault>
+    ) -> Result<(Result<(), NoContent>, Option<Opened>), RunFault>
         requires ahead { HasOpened (S.told shelf.old) (S.is_sure shelf.old) limits (filled_bytes self.old.current)
             (S.left shelf.old) (Some name.now) ahead }
         requires count { S.failures shelf.old < 2 ^ 64 - 1 }
@@ -107,16 +107,18 @@ impl Digester {
         ensures still_sure { S.is_sure shelf.new ≡ S.is_sure shelf.old }
         ensures output { self.new.output ≡ self.old.output }
     {
-        let (found, left) = first_window(shelf, &mut self.current, name, ahead, limits)?;
-        if found == Found::Failed {
-            return Ok((false, None));
-        }
+        let read = first_window(shelf, &mut self.current, name, ahead, limits)?;
+        let first = match read {
+            Ok(first) => first,
+            Err(why) => return Ok((Err(why), None)),
+        };
+        let (found, left) = first;
         let Some(hashed) = self.hash_rest(crew, shelf, found, left, next, limits)? else {
-            return Ok((false, None));
+            return Ok((Err(NoContent::CannotRead), None));
         };
         let (output, opened) = hashed;
         self.take_digest(output);
-        Ok((true, opened))
+        Ok((Ok(()), opened))
     }
 
     // Hashes what is filled of the first window and what is left of the file, and answers its output, or

@@ -33,6 +33,14 @@ pub struct Words {
     pub tag: bool,
     /// Nothing is said of files that are OK.
     pub quiet: bool,
+    /// Missing files are passed over.
+    pub ignore_missing: bool,
+    /// Nothing is written by a check.
+    pub status: bool,
+    /// A list without a check line fails.
+    pub strict: bool,
+    /// The list of each malformed line is named.
+    pub warn: bool,
     /// How many threads hash.
     pub num_threads: Option<u16>,
     /// The files, as they were given.
@@ -65,6 +73,10 @@ impl Words {
             no_names: matches.get_flag("no-names"),
             tag: matches.get_flag("tag"),
             quiet: matches.get_flag("quiet"),
+            ignore_missing: matches.get_flag("ignore-missing"),
+            status: matches.get_flag("status"),
+            strict: matches.get_flag("strict"),
+            warn: matches.get_flag("warn"),
             num_threads: matches.get_one::<u16>("num-threads"),
             files,
         })

@@ -5,7 +5,7 @@ ghost use Rattle.std.specs.Prelude.{◌≡◌, [], None, false, true};
 use crate::tests::workers::Yielding;
 use crate::tests::{options, pattern, tally};
 use b3_board::Gate;
-use b3_check::{CannotRead, MemorySink, Shelf, Sink, SinkFailed, run_sum};
+use b3_check::{CannotRead, MemorySink, NoContent, Shelf, Sink, SinkFailed, run_sum};
 use std::alloc::Global;
 use std::process::Abort;
 use std::sync::Wait;
@@ -33,7 +33,7 @@ impl Shelf for CountedShelf<'_> {
 
     ghost left = { λ _. [] };
 
-    fn begin(&mut self, _name: &str) -> Result<(), CannotRead> {
+    fn begin(&mut self, _name: &str) -> Result<(), NoContent> {
         self.rest = self.content;
         Ok(())
     }
@@ -141,7 +141,7 @@ impl Shelf for SlowShelf<'_> {
 
     ghost left = { λ _. [] };
 
-    fn begin(&mut self, name: &str) -> Result<(), CannotRead> {
+    fn begin(&mut self, name: &str) -> Result<(), NoContent> {
         self.is_slow = name == "slow";
         Ok(())
     }

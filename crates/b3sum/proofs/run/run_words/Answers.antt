@@ -3,7 +3,6 @@ use Rattle.std.specs.Global.{Global}
 use Rattle.std.specs.Prelude.{String, string_bytes}
 use Rattle.std.proofs.lemmas.Bool.{cond_both, eqb-false, ltb-false}
 use Rattle.b3_check.specs.Options.{AreBounds}
-use Rattle.b3_check.specs.declared.options.Form.{Form}
 use Rattle.b3_check.specs.declared.options.Form.TheVariants.{Named, Bare, Raw, Tagged}
 use Rattle.b3sum.specs.Programs.{CanDo, names_of}
 use Rattle.b3sum.specs.Tasks.{check_options, sum_options, task_for, workers_of}
