@@ -9,6 +9,7 @@ mod memory;
 mod open_runs;
 mod plans;
 mod random;
+mod source;
 mod workers;
 
 use b3_board::*;

@@ -1,165 +1,97 @@
--- Reading ahead: a scene in which a name is opened, and runs that stop there.
-use Rattle.std.proofs.Common.{◌≡◌, ◌⊎◌, ℕ, ◌-◌, ◌≤◌, Bool, true, List, [], ◌∷◌, ◌++◌, Option, Some, None, Err, refl, ap, subst, inr, arith}
-use Rattle.std.specs.Prelude.{IfSome, MatchOption}
-use Rattle.b3_check.specs.Contents.{Contents}
-use Rattle.b3_check.specs.Digests.{digest_of}
-use Rattle.b3_check.specs.declared.fault.RunFault.{RunFault}
-use Rattle.b3_check.specs.declared.fault.RunFault.TheVariants.{WriteFault, Memory}
-use Rattle.b3_check.specs.declared.hashing.Output.{Output}
+-- What is known of items: taken one by one, and noted one by one.
+use Rattle.std.proofs.Common.{◌≡◌, ℕ, Bool, ◌<◌, ◌≤◌, suc, zero, List, [], ◌∷◌, ◌++◌, length, map, Option, Some, None, Ok, refl, sym, ◌∙◌, ap, append_assoc, subst, inl, inr, arith}
+use Rattle.std.proofs.Math.ListN.{set}
+use Rattle.std.specs.Prelude.{slice_index_or, All, IfSome}
+use Rattle.std.proofs.lemmas.List.{get_or-set_same, get_or-set_other, get_or_default, length-set, map-append}
+use Rattle.std.proofs.lemmas.List.Elements.{All-append}
+use Rattle.std.proofs.lemmas.Bool.Decides.{eqb_tells}
+use Rattle.b3_core.specs.declared.modes.Mode.{Mode}
+use Rattle.b3_core.specs.declared.nodes.Node.{Node}
+use Rattle.b3_check.specs.declared.ahead.Found.{Found}
 use Rattle.b3_check.specs.declared.items.Item.{Item}
-use Rattle.b3_check.specs.declared.opened.Opened.{Opened}
-use Rattle.b3_check.specs.declared.opened.Opened.TheVariants.{Failed, Stopped as StoppedAt, Begun, Whole}
-use Rattle.b3_check.specs.declared.options.Limits.{Limits}
-use Rattle.b3_check.specs.Ahead.{HasOpened, IsAhead, first_name, item_tasks, opened_failures, tasks_left, unopened}
-use Rattle.b3_check.specs.Reading.{Answered}
-use Rattle.b3_check.specs.Runs.{Broke, Heard, Scene, Stopped, Went, sink_failures}
-use Rattle.b3_check.specs.Scripts.{Answer, AnswersFirst, Given, Report, report, unread}
+use Rattle.b3_check.specs.declared.items.Item.TheVariants.{Ask as AskItem}
+use Rattle.b3_check.specs.declared.items.Subject.{Subject}
+use Rattle.b3_check.specs.Ahead.{AreKnown, IsFound, IsNodeOf, tasks_then}
+use Rattle.b3_check.specs.declared.hashing.Output.{Output}
+use Rattle.b3_check.specs.Contents.{Contents, HasContent}
+use Rattle.b3_check.specs.Reading.{Digested}
+use Rattle.b3_check.specs.Runs.{Scene}
+use Rattle.b3_check.specs.Scripts.{AgreesWith, answer_of}
 use Rattle.b3_check.specs.Scripts.Kind.{Hashed}
-use Rattle.b3_check.specs.Tasks.{IsFitItem, Task, task_of, tasks_script}
-use Rattle.b3_check.specs.Tasks.Task.{Tell, Find}
-use Rattle.b3_check.proofs.RunLemmas.{broke_at_once, broke_early, caused_anywhere, went_then_broke}
-use Rattle.b3_check.proofs.ScriptLemmas.{AnswersFirst-none, nothing-joined}
+use Rattle.b3_core.specs.Output.{output_bytes}
+use Rattle.b3_check.proofs.RunLemmas.{went_nowhere}
+use Rattle.b3_check.specs.Tasks.{Task, name_asked, task_of}
 
--- ---- the answer that opening a name came to
+pub are_known_none : (told : Option Contents) (mode : Mode) (items : List Item) → AreKnown told mode items []
+are_known_none told mode items = record { few = omega arith; each = λ i d lt. absurd (omega (arith, lt)) }
 
--- a name that cannot be read is answered by that; any other is not answered yet
-abbrev pub opened_answers : Option Opened → List Answer
-opened_answers None = []
-opened_answers (Some (Failed why)) = Err why ∷ []
-opened_answers (Some (StoppedAt fault)) = []
-opened_answers (Some (Begun left)) = []
-opened_answers (Some Whole) = []
+pub all_none : {X : Type 0} (P : X → Type 0) → All P []
+all_none P k d lt = absurd (omega (arith, lt))
 
-unread-opened_answers : (opened : Option Opened) → unread (opened_answers opened) ≡ opened_failures opened
-unread-opened_answers None = refl
-unread-opened_answers (Some (Failed why)) = refl
-unread-opened_answers (Some (StoppedAt fault)) = refl
-unread-opened_answers (Some (Begun left)) = refl
-unread-opened_answers (Some Whole) = refl
-
--- it answers the task that asks for the name
-AnswersFirst-opened_answers : (told : Option Contents) (sure : Bool) (limits : Limits) (output : Output)
-    (filled rest : List ℕ) (tasks : List Task)
-    (opened : Option Opened) → HasOpened told sure limits filled rest (first_name tasks) opened
-    → AnswersFirst told sure (tasks_script output tasks) (opened_answers opened)
-AnswersFirst-opened_answers told sure limits output filled rest tasks None is =
-    AnswersFirst-none told sure (tasks_script output tasks)
-AnswersFirst-opened_answers told sure limits output filled rest [] (Some opened) is = absurd is
-AnswersFirst-opened_answers told sure limits output filled rest (Tell said ∷ tasks) (Some opened) is = absurd is
-AnswersFirst-opened_answers told sure limits output filled rest (Find name says ∷ tasks) (Some (Failed why)) is =
-    (is, AnswersFirst-none told sure (tasks_script output tasks))
-AnswersFirst-opened_answers told sure limits output filled rest (Find name says ∷ tasks) (Some (StoppedAt fault)) is =
-    tt
-AnswersFirst-opened_answers told sure limits output filled rest (Find name says ∷ tasks) (Some (Begun left)) is = tt
-AnswersFirst-opened_answers told sure limits output filled rest (Find name says ∷ tasks) (Some Whole) is = tt
-
--- ---- a scene in which nothing is opened
-
-sub-zero : (n : ℕ) → n - 0 ≡ n
-sub-zero n = omega arith
-
-pub unopened-None : (a : Scene) → unopened None a ≡ a
-unopened-None a = λ i. record
-    { told = a.told; sure = a.sure; failures = sub-zero a.failures i; out = a.out; err = a.err }
-
--- as where no name is asked for
-pub unopened-unasked : {limits : Limits} {a : Scene} {filled rest : List ℕ} (opened : Option Opened)
-    → IsAhead limits a filled rest None opened → unopened opened a ≡ a
-unopened-unasked {limits} {a} {filled} {rest} None ahead = unopened-None a
-unopened-unasked {limits} {a} {filled} {rest} (Some opened) ahead = absurd ahead.is
-
--- ---- steps in a scene in which a name is opened
-
--- nothing is asked for: the name stays opened
-heard_unopened : {a b : Scene} (opened : Option Opened) → opened_failures opened ≤ a.failures → Heard a b []
-    → Heard (unopened opened a) (unopened opened b) []
-heard_unopened {a} {b} opened count heard = record {
-  told = heard.told;
-  sure = heard.sure;
-  failures = omega (arith, count, heard.failures);
+-- a node was found for one of them
+pub known_set : {told : Option Contents} {mode : Mode} {items : List Item} {nodes : List (Option Node)} (found : Found)
+    → IsFound told mode items found → found.place < length nodes → AreKnown told mode items nodes
+    → AreKnown told mode items (set nodes found.place (Some found.node))
+known_set {told} {mode} {items} {nodes} found is lt are = record {
+  few = subst (λ n. n ≤ length items) (sym (length-set nodes found.place (Some found.node))) are.few;
+  each = λ i d within.
+      let inside : i < length nodes = subst (λ n. i < n) (length-set nodes found.place (Some found.node)) within in
+      elim (eqb_tells i found.place) [
+        | inl same ↦ rw same.1 (rw (get_or-set_same nodes found.place (Some found.node) None lt)
+            (is d (omega (arith, lt, are.few))))
+        | inr other ↦ rw (get_or-set_other nodes found.place i (Some found.node) None other.1) (are.each i d inside)
+      ];
 }
 
-pub went_unopened : {a b : Scene} {p : Report} (opened : Option Opened) → opened_failures opened ≤ a.failures
-    → Went a b [] p → Went (unopened opened a) (unopened opened b) [] p
-went_unopened {a} {b} {p} opened count went = record {
-  heard = heard_unopened opened count went.heard;
-  out = went.out;
-  err = went.err;
-}
+-- one more is found, or fit
+one_all : {X : Type 0} (P : X → Type 0) (x : X) → P x → All P (x ∷ [])
+one_all P x p zero d lt = p
+one_all P x p (suc k) d lt = absurd (omega (arith, lt))
 
--- a fault comes: a name that cannot be read is answered by that
-broke_opened : {a b : Scene} {p : Report} {fault : RunFault} (opened : Option Opened)
-    → opened_failures opened ≤ a.failures
-    → Broke a b [] p fault → Broke (unopened opened a) b (opened_answers opened) p fault
-broke_opened {a} {b} {p} {fault} opened count broke = record {
-  heard = record {
-    told = broke.heard.told;
-    sure = broke.heard.sure;
-    failures = omega (arith, count, broke.heard.failures, unread-opened_answers opened);
+pub all_more : {X : Type 0} (P : X → Type 0) (xs : List X) (x : X) → All P xs → P x → All P (xs ++ x ∷ [])
+all_more P xs x all p = All-append P xs (x ∷ []) all (one_all P x p)
+
+-- one more item is taken
+pub taken_more : {rest left : List Task} (item : Item) (items : List Item) → left ≡ task_of item ∷ rest
+    → tasks_then (items ++ item ∷ []) rest ≡ tasks_then items left
+taken_more {rest} {left} item items is =
+    ap (λ (ts : List Task). ts ++ rest) (map-append task_of items (item ∷ []))
+    ∙ append_assoc (map task_of items) (task_of item ∷ []) rest
+    ∙ ap (λ (ts : List Task). map task_of items ++ ts) (sym is)
+
+-- a node was found for the item at a place
+pub found_for : {told : Option Contents} {mode : Mode} {item : Item} {node : Node} (items : List Item) (place : ℕ)
+    (subject : Subject) → item ≡ slice_index_or items place item → item ≡ AskItem subject
+    → IsNodeOf told mode (name_asked subject) node
+    → IsFound told mode items (record { place = place; node = node })
+found_for {told} {mode} {item} {node} items place subject at asks is = λ d lt.
+    let same : slice_index_or items place d ≡ AskItem subject =
+    get_or_default items place d item lt ∙ sym at ∙ asks in
+    rw same is
+
+pub if_some_weaker : {T : Type 0} {P Q : T → Type 0} (it : Option T) → ((x : T) → P x → Q x) → IfSome it P → IfSome it Q
+if_some_weaker {T} {P} {Q} None weaker p = tt
+if_some_weaker {T} {P} {Q} (Some x) weaker p = weaker x p
+
+-- ---- a name of which the node is known is answered
+
+agrees_known : (told : Option Contents) (sure : Bool) (name content : List ℕ) → HasContent told name content
+    → AgreesWith told sure Hashed name (Ok content)
+agrees_known None sure name content has = tt
+agrees_known (Some contents) sure name content has = inl (sym (ap (answer_of Hashed) has))
+
+pub digested_known : {name : List ℕ} {node : Node} {digest : List ℕ} (output : Output) (a : Scene)
+    → IsNodeOf a.told output.mode name node → digest ≡ output_bytes node output.seek output.length
+    → Digested output name (Ok digest) a a
+digested_known {name} {node} {digest} output a known is = record {
+  answer = Ok known.content;
+  answered = record {
+    agrees = agrees_known a.told a.sure name known.content known.has;
+    went = record {
+      heard = record { told = refl; sure = refl; failures = omega arith };
+      out = (went_nowhere a).out;
+      err = (went_nowhere a).err;
+    };
   };
-  out = broke.out;
-  err = broke.err;
-  sinks = broke.sinks;
+  is = ap Ok (is ∙ ap (λ (n : Node). output_bytes n output.seek output.length) known.is);
 }
-
--- the name that was opened stays so
-pub ahead_said : {limits : Limits} {a b : Scene} {filled rest : List ℕ} {name : Option (List ℕ)} {p : Report}
-    (opened : Option Opened) → Went a b [] p → IsAhead limits a filled rest name opened
-    → IsAhead limits b filled rest name opened
-ahead_said {limits} {a} {b} {filled} {rest} {name} {p} opened went ahead = record {
-  count = omega (arith, ahead.count, went.heard.failures);
-  is = rw (went.heard.told, went.heard.sure) ahead.is;
-}
-
--- a run stops where a name is opened
-pub stopped_opened : {limits : Limits} {a : Scene} {fault : RunFault} {filled rest : List ℕ} (output : Output)
-    (tasks : List Task) (opened : Option Opened)
-    → IsAhead limits a filled rest (first_name tasks) opened → fault ≡ Memory
-    → Stopped limits (tasks_script output tasks) (unopened opened a) a fault
-stopped_opened {limits} {a} {fault} {filled} {rest} output tasks opened ahead refused = record {
-  answers = opened_answers opened;
-  agree = AnswersFirst-opened_answers a.told a.sure limits output filled rest tasks opened ahead.is;
-  broke = broke_opened opened ahead.count (broke_at_once a _ fault (ap sink_failures refused));
-  cause = caused_anywhere _ limits _ _ fault (inr refused);
-}
-
--- a run stops in saying what the answer to a name gives, where the next one is opened
-pub stopped_ahead : {limits : Limits} {a b c : Scene} {fault : RunFault} (output : Output) {name : List ℕ}
-    {filled rest : List ℕ} (says : Given (List ℕ) → Report) (answer : Answer) (behind : List Task)
-    (opened : Option Opened)
-    → Answered Hashed name answer a (unopened opened b) → Broke b c [] (says (digest_of output answer)) fault
-    → IsAhead limits b filled rest (first_name behind) opened → (fault ≡ WriteFault) ⊎ (fault ≡ Memory)
-    → Stopped limits (tasks_script output (Find name says ∷ behind)) a c fault
-stopped_ahead {limits} {a} {b} {c} {fault} output {name} {filled} {rest} says answer behind opened answered broke
-    ahead known =
-    let went = answered.went in
-    let first = AnswersFirst-opened_answers b.told b.sure limits output filled rest behind opened ahead.is in
-    let more = report (tasks_script output behind) (opened_answers opened) in
-    let P : Report → Type 0 = λ q. Broke a c (answer ∷ opened_answers opened) q fault in
-    record {
-      answers = answer ∷ opened_answers opened;
-      agree = (answered.agrees, rw (went.heard.told, went.heard.sure) at first);
-      broke = subst P (nothing-joined _)
-          (went_then_broke went (broke_early more (broke_opened opened ahead.count broke)));
-      cause = caused_anywhere _ limits _ _ fault known;
-    }
-
--- ---- the items of a plan
-
--- the next item, and those behind it
-pub left-next : (next : Option Item) (tasks behind : List Task)
-    → MatchOption next (tasks ≡ []) (λ item. tasks ≡ task_of item ∷ behind) → tasks ≡ tasks_left next behind
-left-next None tasks behind is = is
-left-next (Some item) tasks behind is = is
-
--- the next item alone
-pub tasks_left-next : (next : Option Item) (tasks : List Task)
-    → (behind : List Task) × (tasks_left next tasks ≡ item_tasks next ++ behind)
-tasks_left-next None tasks = ([], refl)
-tasks_left-next (Some item) tasks = (tasks, refl)
-
--- it is fit
-pub fit-next : (next : Option Item) (fits : ℕ → Bool) (len : ℕ) → fits len ≡ true
-    → IfSome next (λ item. (n : ℕ) → fits n ≡ true → IsFitItem n item) → IfSome next (IsFitItem len)
-fit-next None fits len is fit = tt
-fit-next (Some item) fits len is fit = fit len is

@@ -6,15 +6,15 @@ pub mod Stored
 pub mod ScriptLemmas
 -- Runs: of parts of a script, one after the other, and runs that stop.
 pub mod RunLemmas
--- Reading ahead: a scene in which a name is opened, and runs that stop there.
-pub mod AheadLemmas
 -- Tasks: their scripts, runs of the tasks so far, and those of one.
 pub mod TaskLemmas
 -- What is read of a file: so far, to its end, and of a name.
 pub mod ReadLemmas
 -- Windows: what is filled of one, and what the windows so far leave.
 pub mod WindowLemmas
--- Opening a name: what is read of its first window, and what it answers.
-pub mod OpenLemmas
 -- Runs over lists of check lines.
 pub mod CheckLemmas
+-- what is known of items before the run comes to them
+mod AheadLemmas
+-- Pieces of a content: what the next piece adds to those before it.
+pub mod PieceLemmas

@@ -27,7 +27,7 @@ use Rattle.b3_check.proofs.ScriptLemmas.{AnswersFirst-append, AnswersFirst-longe
 heard_nothing : (a : Scene) → Heard a a []
 heard_nothing a = record { told = refl; sure = refl; failures = sym (add-zero a.failures) }
 
-pub gains_nothing : (a : Sheet) → Gains a a []
+gains_nothing : (a : Sheet) → Gains a a []
 gains_nothing a = record { bytes = Appends-nil a.held; count = refl }
 
 pub went_nowhere : (a : Scene) → Went a a [] nothing
@@ -77,7 +77,7 @@ longer_part : {a b : Sheet} {xs : List ℕ} (ys : List ℕ) → GainsPart a b xs
 longer_part {a} {b} {xs} ys part = record
     { bytes = GainsBeginning-longer a.held b.held xs ys part.bytes; count = part.count }
 
-pub broke_early : {a b : Scene} {xs : List Answer} {p : Report} {fault : RunFault} (more : Report)
+broke_early : {a b : Scene} {xs : List Answer} {p : Report} {fault : RunFault} (more : Report)
     → Broke a b xs p fault → Broke a b xs (joined p more) fault
 broke_early more broke = record {
   heard = broke.heard;
@@ -87,7 +87,7 @@ broke_early more broke = record {
 }
 
 -- a fault that no sink has a part in, before anything is said
-pub no_part : (a : Sheet) (text : List ℕ) → GainsPart a a text
+no_part : (a : Sheet) (text : List ℕ) → GainsPart a a text
 no_part a text = record { bytes = GainsBeginning-none a.held text; count = omega arith }
 
 pub broke_at_once : (a : Scene) (p : Report) (fault : RunFault) → sink_failures fault ≡ 0 → Broke a a [] p fault

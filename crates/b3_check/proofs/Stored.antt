@@ -4,7 +4,7 @@ use Rattle.std.specs.Option.{option_map_or}
 use Rattle.std.proofs.Math.Seq.{drop-length, take-append_seam, take-suc}
 use Rattle.std.proofs.lemmas.Bool.{cases_Bool, cases_lt}
 use Rattle.std.proofs.lemmas.Option.{slice_get-get_or}
-use Rattle.std.proofs.lemmas.List.{drop-drop, length-take, length-take-le, nil_from_length, take-append-drop, take_rest}
+use Rattle.std.proofs.lemmas.List.{drop-drop, length-take, length-take-le, nil_from_length, take-append-drop, take_min, take_rest}
 use Rattle.std.proofs.lemmas.Slice.Eq.{bytes_eq-Decides}
 use Rattle.b3_check.specs.declared.memory_shelf.StoredFile.{StoredFile}
 use Rattle.b3_check.specs.Contents.{Gives}
@@ -225,3 +225,26 @@ shelf_gives files begun k place count m file content room copied begun_is within
     let taken : take count (copied ++ drop count room) ≡ take count (drop m content) =
     ap (λ n. take n (copied ++ drop count room)) (sym sized) ∙ take-append_seam copied (drop count room) ∙ given in
     rw (begun_is, stored, taken, m_is) (gives_next content place count (length room) (rw m_is at least) some)
+
+-- the bytes from a place on, behind those that were given
+pub shelf_gives_at : (files : List StoredFile) (begun : Option ℕ) (k given place count : ℕ) (file : StoredFile)
+    (content room copied : List ℕ)
+    → begun ≡ Some k → k < length files → file ≡ get_or files k file → content ≡ file.content.items
+    → count ≡ min (length (drop (given + place) content)) (length room)
+    → copied ≡ take count (drop (given + place) content)
+    → let begun_content = option_map_or (λ j. option_map_or (λ f. f.content.items) (slice_get files j) []) begun [] in
+    take count (copied ++ drop count room) ≡ take (length room) (drop place (drop given begun_content))
+shelf_gives_at files begun k given place count file content room copied begun_is within is content_is count_is
+    copied_is =
+    let rest = drop (given + place) content in
+    let stored : option_map_or (λ f. f.content.items) (slice_get files k) [] ≡ content =
+    ap (λ found. option_map_or (λ f. f.content.items) found []) (slice_get-get_or files k file within)
+    ∙ ap (λ f. f.content.items) (sym is) ∙ sym content_is in
+    let sized : length copied ≡ count = ap length copied_is
+    ∙ length-take-le count rest (omega (arith, count_is)) in
+    let taken : take count (copied ++ drop count room) ≡ take count rest =
+    ap (λ n. take n (copied ++ drop count room)) (sym sized) ∙ take-append_seam copied (drop count room) ∙ copied_is in
+    let most : count ≡ min (length room) (length rest) = omega (arith, count_is) in
+    let all : take count rest ≡ take (length room) rest =
+    ap (λ n. take n rest) most ∙ take_min (length room) rest in
+    rw (begun_is, stored) (taken ∙ all ∙ ap (take (length room)) (sym (drop-drop place given content)))

@@ -1,5 +1,5 @@
 -- What is seen of a desk.
-use Rattle.std.specs.Prelude.{ℕ, List}
+use Rattle.std.specs.Prelude.{ℕ}
 use Rattle.b3_check.specs.declared.desk.Desk.{Desk}
 use Rattle.b3_check.specs.declared.shelf.Shelf.{Ghosts as ShelfWords}
 use Rattle.b3_check.specs.declared.sink.Sink.{Ghosts as SinkWords}
@@ -12,7 +12,3 @@ scene_of s o e desk = scene s o e desk.shelf.now desk.out.now desk.err.now
 -- which borrows it holds
 abbrev pub loans : {S O E : Type 0} → Desk S O E → ℕ × ℕ × ℕ
 loans desk = (desk.shelf.ghost_name, desk.out.ghost_name, desk.err.ghost_name)
-
--- what is left of the file that its shelf has begun, where contents are told
-abbrev pub left_of : {S O E : Type 0} → ShelfWords S → Desk S O E → List ℕ
-left_of s desk = s.left desk.shelf.now

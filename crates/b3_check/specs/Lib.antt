@@ -15,3 +15,4 @@ pub mod Windows
 pub mod MemoryShelves
 pub mod MemorySinks
 pub mod Ahead
+pub mod Pieces

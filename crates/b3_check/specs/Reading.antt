@@ -75,6 +75,11 @@ pub record Digested (output : Output) (name : List ℕ) (digest : Given (List �
   pub answered : Answered Hashed name answer before after
   pub is : digest ≡ digest_of output answer
 
+-- a name is asked for, and its digest; `digest` is what was found
+abbrev pub Hashes : Output → Limits → List ℕ → Scene → Scene → List ℕ → Result (Given ⊤) RunFault → Type 0
+Hashes output limits name before after digest (Ok whole) = Digested output name (found_if whole digest) before after
+Hashes output limits name before after digest (Err fault) = Unanswered Hashed limits name before after fault
+
 -- where contents are told: the rest of the file that is begun, under each name
 abbrev pub only_rest : Option Contents → List ℕ → Option Contents
 only_rest told left = option_map (λ _ _. Some left) told
@@ -82,6 +87,12 @@ only_rest told left = option_map (λ _ _. Some left) told
 -- the fault of reading that rest
 abbrev pub IsFaultOfRest : RunFault → Option Contents → Limits → Kind → List ℕ → Type 0
 IsFaultOfRest fault told limits kind left = IsReadingFault fault (only_rest told left) limits kind []
+
+-- whether the rest cannot be read
+abbrev pub is_unread : {T : Type 0} → Result (Option T) RunFault → ℕ
+is_unread (Ok (Some _)) = 0
+is_unread (Ok None) = 1
+is_unread (Err _) = 0
 
 -- what was read of a key
 abbrev pub key_bytes : KeyRead → List ℕ

@@ -13,11 +13,12 @@ use Rattle.b3_check.specs.declared.items.Subject.{Subject}
 use Rattle.b3_check.specs.declared.items.Subject.TheVariants.{Line, Name}
 use Rattle.b3_check.specs.declared.options.CheckOptions.{CheckOptions}
 use Rattle.b3_check.specs.declared.options.Form.{Form}
+use Rattle.b3_check.specs.declared.options.Limits.{Limits}
 use Rattle.b3_check.specs.declared.said.Said.{Said}
 use Rattle.b3_check.specs.Checks.{entry_of, refused_report, verdict_on, verdict_report}
 use Rattle.b3_check.specs.Digests.{digest_of, digest_script}
 use Rattle.b3_check.specs.Reading.{Answered}
-use Rattle.b3_check.specs.Runs.{Broke, Scene, Went}
+use Rattle.b3_check.specs.Runs.{Broke, Scene, Stopped, Went}
 use Rattle.b3_check.specs.Scripts.{Answer, Given, Report, Script, given_map, in_turn}
 use Rattle.b3_check.specs.Scripts.Kind.{Hashed}
 use Rattle.b3_check.specs.Scripts.Script.{Done, Say}
@@ -106,3 +107,8 @@ pub record Gave (output : Output) (name : List ℕ) (says : Given (List ℕ) →
   pub answer : Answer
   pub answered : Answered Hashed name answer before after
   pub is : report_of said ≡ says (digest_of output answer)
+
+abbrev pub Gives : Limits → Output → List ℕ → (Given (List ℕ) → Report) → Scene → Scene → Result Said RunFault → Type 0
+Gives limits output name says before after (Ok said) = Gave output name says before after said
+Gives limits output name says before after (Err fault) = Stopped limits (digest_script output name says) before after
+    fault

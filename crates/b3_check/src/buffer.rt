@@ -1,44 +1,78 @@
 //! The memory that windows are read into.
 
-ghost use Rattle.std.specs.Prelude.{◌≡◌, ◌+◌, ◌-◌, ◌^◌, ◌<◌, ◌≤◌, ◌++◌, [], IsTrue, IsSome, IsOk, IfOk, OnOk, OnErr, length, take, vec_len, is_err, if◌then◌else◌};
-ghost use Rattle.b3_check.specs.declared.buffer.TheConstants.{WINDOW_LEN};
+ghost use Rattle.std.specs.Prelude.{◌≡◌, ◌+◌, ◌-◌, ◌*◌, ◌%◌, ◌^◌, ◌<◌, ◌≤◌, ◌↔◌, ◌++◌, [], IsTrue, IsSome, IsOk, IfOk, OnOk, OnErr, length, take, vec_len, is_err, if◌then◌else◌};
+ghost use Rattle.b3_check.specs.declared.buffer.TheConstants.{MAX_WINDOW_LEN};
 ghost use Rattle.b3_check.specs.declared.room.TheConstants.{READ_LEN};
 
 use crate::room::{READ_LEN, read_at};
 use crate::shelf::{CannotRead, Shelf};
 use std::alloc::{AllocError, Global};
 
-/// A window has 2^WINDOW_LEVEL chunks.
-pub const WINDOW_LEVEL: u32 = 11;
+/// How long a window is at most.
+pub const MAX_WINDOW_LEN: usize = 1 << 21;
 
-/// How many bytes a window has.
-pub const WINDOW_LEN: usize = 1 << 21;
+/// Which windows a content is read in.
+#[derive(Clone, Copy, Debug, PartialEq, Eq)]
+pub enum WindowSize {
+    /// As long as a read: who reads it hashes it at once, while the other end of a pipe writes the next.
+    OneRead,
+    /// So long that 64 workers have a span of it each.
+    ForWorkers,
+}
 
-/// Memory for a window and a read behind it, filled from its front. Behind what is filled stand bytes of
+/// Memory for a window of 2^level chunks, filled from its front. Behind what is filled stand bytes of
 /// earlier windows; what was never read into is not touched.
 #[derive(Drop)]
 pub struct Buffer {
     bytes: Vec<u8>,
     filled: usize,
+    level: u32,
+    len: usize,
     ghost within: { filled ≤ vec_len bytes },
+    ghost short: { filled ≤ len },
+    ghost size: { len ≡ 1024 * 2 ^ level },
+    ghost some: { 0 < len },
+    ghost most: { len ≤ MAX_WINDOW_LEN },
+    ghost whole: { len % 1024 ≡ 0 },
+    ghost low: { level ≤ 11 },
 }
 
 impl Buffer {
-    ghost use Rattle.b3_check.specs.Windows.{filled_bytes};
+    ghost use Rattle.b3_check.specs.Windows.{IsSameSize, filled_bytes, next_read};
 
     /// A buffer of which nothing is filled. It takes all its memory here.
-    pub fn new(alloc: Global) -> Result<Buffer, AllocError> {
+    pub fn new(alloc: Global, size: WindowSize) -> Result<Buffer, AllocError> {
+        let (level, len) = match size {
+            WindowSize::OneRead => (6, READ_LEN),
+            WindowSize::ForWorkers => (11, MAX_WINDOW_LEN),
+        };
         Ok(Buffer {
-            bytes: Vec::with_capacity(alloc, WINDOW_LEN + READ_LEN)?,
+            bytes: Vec::with_capacity(alloc, len)?,
             filled: 0,
+            level,
+            len,
         })
     }
 
-    /// How many bytes are filled.
-    pub fn len(&self) -> usize
-        ensures { result ≡ self.now.filled }
+    /// The window has 2^level chunks when it is full.
+    pub fn level(&self) -> u32
+        ensures { result ≡ self.now.level }
     {
-        self.filled
+        self.level
+    }
+
+    /// Whether nothing is filled.
+    pub fn is_empty(&self) -> bool
+        ensures { IsTrue result ↔ (self.now.filled ≡ 0) }
+    {
+        self.filled == 0
+    }
+
+    /// Whether the window is full.
+    pub fn is_full(&self) -> bool
+        ensures { IsTrue result ↔ (self.now.filled ≡ self.now.len) }
+    {
+        self.filled == self.len
     }
 
     /// What is filled.
@@ -53,34 +87,29 @@ impl Buffer {
     pub fn clear(&mut self)
         ensures bytes { filled_bytes self.new ≡ [] }
         ensures filled { self.new.filled ≡ 0 }
+        ensures size { IsSameSize self.old self.new }
     {
         self.filled = 0;
     }
 
-    /// Holds these bytes alone.
-    pub fn start_with(&mut self, front: &[u8]) -> Result<(), AllocError>
-        ensures bytes { OnOk result (filled_bytes self.new ≡ front.now) }
-        ensures filled { OnOk result (self.new.filled ≡ length front.now) }
-    {
-        self.grow(front.len())?;
-        copy_front(self.bytes.as_mut_slice(), front);
-        self.filled = front.len();
-        Ok(())
-    }
-
-    /// Makes room for a read behind what is filled.
+    /// Makes room for a read behind what is filled; bytes that are there are not written again.
     pub fn make_room(&mut self) -> Result<(), AllocError>
-        requires { self.old.filled ≤ WINDOW_LEN }
-        ensures room { OnOk result (self.new.filled + READ_LEN ≤ vec_len self.new.bytes) }
+        ensures room { OnOk result (self.new.filled + next_read self.new ≤ vec_len self.new.bytes) }
         ensures filled { self.new.filled ≡ self.old.filled }
         ensures bytes { filled_bytes self.new ≡ filled_bytes self.old }
+        ensures size { IsSameSize self.old self.new }
     {
-        self.grow(self.filled + READ_LEN)
+        let end = self.filled + self.next_read();
+        if self.bytes.len() < end {
+            self.bytes.resize(end, 0)?;
+        }
+        Ok(())
     }
 
     /// One read, behind what is filled.
     pub fn read<S: Shelf>(&mut self, shelf: &mut S) -> Result<usize, CannotRead>
-        requires room { self.old.filled + READ_LEN ≤ vec_len self.old.bytes }
+        requires some { self.old.filled < self.old.len }
+        requires room { self.old.filled + next_read self.old ≤ vec_len self.old.bytes }
         requires count { S.failures shelf.old < 2 ^ 64 - 1 }
         ensures filled { IfOk result (λ n. self.new.filled ≡ self.old.filled + n) }
         ensures within { IfOk result (λ n. n ≤ READ_LEN) }
@@ -88,35 +117,23 @@ impl Buffer {
         ensures bytes { IsSome (S.told shelf.old)
             → OnOk result (filled_bytes self.old ++ S.left shelf.old ≡ filled_bytes self.new ++ S.left shelf.new) }
         ensures end { IsSome (S.told shelf.old) → IfOk result (λ n. n ≡ 0 → S.left shelf.new ≡ []) }
+        ensures size { IsSameSize self.old self.new }
         ensures sure { IsTrue (S.is_sure shelf.old) → IsOk result }
         ensures count { S.failures shelf.new ≡ S.failures shelf.old + (if is_err result then 1 else 0) }
         ensures told { S.told shelf.new ≡ S.told shelf.old }
         ensures still_sure { S.is_sure shelf.new ≡ S.is_sure shelf.old }
     {
         let start = self.filled;
-        let count = read_at(shelf, self.bytes.as_mut_slice(), start, READ_LEN)?;
+        let wanted = self.next_read();
+        let count = read_at(shelf, self.bytes.as_mut_slice(), start, wanted)?;
         self.filled = start + count;
         Ok(count)
     }
 
-    // Bytes to write into; those that are there are not written again.
-    fn grow(&mut self, len: usize) -> Result<(), AllocError>
-        ensures room { OnOk result (len ≤ vec_len self.new.bytes) }
-        ensures filled { self.new.filled ≡ self.old.filled }
-        ensures bytes { filled_bytes self.new ≡ filled_bytes self.old }
+    // How many bytes the next read asks for.
+    fn next_read(&self) -> usize
+        ensures { result ≡ next_read self.now }
     {
-        if self.bytes.len() < len {
-            self.bytes.resize(len, 0)?;
-        }
-        Ok(())
+        READ_LEN.min(self.len - self.filled)
     }
-}
-
-// Copies bytes to the front.
-fn copy_front(bytes: &mut [u8], front: &[u8])
-    requires { length front.now ≤ length bytes.old }
-    ensures len { length bytes.new ≡ length bytes.old }
-    ensures front { take (length front.now) bytes.new ≡ front.now }
-{
-    bytes[..front.len()].copy_from_slice(front);
 }

@@ -39,7 +39,13 @@ const FIRST_LINE: u64 = 1;
 /// which names are passed over and which texts are left out. Answers what was counted.
 ///
 /// A list is read whole. A run fault ends the run.
-pub fn run_check<R: Threads + Wait + Sync, S: Shelf + Send, O: Sink, E: Sink, G: Gate + Sync>(
+pub fn run_check<
+    R: Threads + Wait + Sync,
+    S: Shelf + Send + Sync,
+    O: Sink,
+    E: Sink,
+    G: Gate + Sync,
+>(
     rt: &R,
     alloc: Global,
     shelf: &mut S,
@@ -88,7 +94,7 @@ pub fn run_check<R: Threads + Wait + Sync, S: Shelf + Send, O: Sink, E: Sink, G:
 }
 
 // Checks lists, one after the other, and says how many lines failed.
-fn check_lists<R: Threads + Wait + Sync, G: Gate + Sync, S: Shelf + Send, O: Sink, E: Sink>(
+fn check_lists<R: Threads + Wait + Sync, G: Gate + Sync, S: Shelf + Send + Sync, O: Sink, E: Sink>(
     alloc: Global,
     crew: Crew<'_, R, G>,
     desk: &mut Desk<'_, '_, '_, S, O, E>,
@@ -150,7 +156,7 @@ impl<'c, R: Threads + Wait + Sync, G: Gate + Sync> Checker<'c, R, G> {
     }
 
     // Checks lists, one after the other.
-    fn check_all<S: Shelf + Send, O: Sink, E: Sink>(
+    fn check_all<S: Shelf + Send + Sync, O: Sink, E: Sink>(
         &mut self,
         desk: &mut Desk<'_, '_, '_, S, O, E>,
         lists: &[String],
@@ -175,7 +181,7 @@ impl<'c, R: Threads + Wait + Sync, G: Gate + Sync> Checker<'c, R, G> {
     }
 
     // Reads a list, and checks its lines.
-    fn check_list<S: Shelf + Send, O: Sink, E: Sink>(
+    fn check_list<S: Shelf + Send + Sync, O: Sink, E: Sink>(
         &mut self,
         desk: &mut Desk<'_, '_, '_, S, O, E>,
         name: &str,
@@ -201,7 +207,7 @@ impl<'c, R: Threads + Wait + Sync, G: Gate + Sync> Checker<'c, R, G> {
     }
 
     // Checks the lines of the list of this name, which was read.
-    fn check_lines<S: Shelf + Send, O: Sink, E: Sink>(
+    fn check_lines<S: Shelf + Send + Sync, O: Sink, E: Sink>(
         &mut self,
         desk: &mut Desk<'_, '_, '_, S, O, E>,
         name: &str,

@@ -2,13 +2,13 @@
 
 ghost use Rattle.std.specs.Prelude.{◌≡◌, ◌+◌, ◌<◌, ◌≤◌, ◌^◌, IfErr, IfOk, length};
 ghost use Rattle.b3_board.specs.declared.fault.BoardFault.TheVariants as BoardFault;
-ghost use Rattle.b3_check.specs.declared.buffer.TheConstants.{WINDOW_LEN};
+ghost use Rattle.b3_check.specs.declared.buffer.TheConstants.{MAX_WINDOW_LEN};
 ghost use Rattle.b3_check.specs.declared.fault.RunFault.TheVariants as RunFault;
 ghost use Rattle.b3_core.specs.Tree.{chunks, top};
 
-use crate::buffer::WINDOW_LEN;
+use crate::buffer::{MAX_WINDOW_LEN, WindowSize};
 use crate::fault::RunFault;
-use b3_board::{BoardFault, CHUNKS_A_THREAD, Gate, Plan, default_grain, hash_parallel};
+use b3_board::{BoardFault, Gate, Plan, default_grain, hash_parallel};
 use b3_core::{Mode, Node, chunks, top};
 use std::alloc::Global;
 use std::sync::Wait;
@@ -44,20 +44,33 @@ impl<'c, R: Threads + Wait + Sync, G: Gate + Sync> Crew<'c, R, G> {
         self.rt
     }
 
-    /// Whether hashing so many bytes takes longer than a thread takes to start, or a worker may be held.
-    pub fn is_worth_a_thread(&self, len: usize) -> bool {
-        self.gate.may_hold() || chunks(len as u64) >= CHUNKS_A_THREAD
+    /// How many workers read for themselves, each what no other reads. Behind a gate that may hold a worker
+    /// none does: there all work goes by the board, whose workers do the work of one that is held.
+    pub fn readers(&self) -> usize {
+        if self.gate.may_hold() {
+            return 0;
+        }
+        self.workers as usize
     }
 
-    /// The node of a window (BLAKE3 (2020), 2.1), whose chunks are numbered from `first`. Every window of
-    /// every file comes through here. A run fault is want of memory.
+    /// Which windows a content is read in that is read in order.
+    pub fn window_size(&self) -> WindowSize {
+        if self.gate.may_hold() {
+            return WindowSize::ForWorkers;
+        }
+        WindowSize::OneRead
+    }
+
+    /// The node of a window (BLAKE3 (2020), 2.1), whose chunks are numbered from `first`. Every window of a
+    /// content that is read in order comes through here. Where no worker can be held, who read it hashes it:
+    /// no thread is started for a window. A run fault is want of memory.
     pub fn window_node(&self, bytes: &[u8], mode: &Mode, first: u64) -> Result<Node, RunFault>
         requires numbers { first + chunks (length bytes.now) ≤ 2 ^ 54 }
-        requires little { length bytes.now ≤ WINDOW_LEN }
+        requires little { length bytes.now ≤ MAX_WINDOW_LEN }
         ensures node { IfOk result (λ node. node ≡ top mode.now first bytes.now) }
         ensures fault { IfErr result (λ fault. fault ≡ RunFault.Memory) }
     {
-        if self.needs_one_thread(bytes.len()) {
+        if !self.gate.may_hold() {
             return Ok(top(mode, first, bytes));
         }
         match self.share_out(bytes, mode, first) {
@@ -67,16 +80,10 @@ impl<'c, R: Threads + Wait + Sync, G: Gate + Sync> Crew<'c, R, G> {
         }
     }
 
-    // Whether a window of so many bytes would be hashed by one thread, so that it needs no board.
-    fn needs_one_thread(&self, len: usize) -> bool {
-        let chunks = chunks(len as u64);
-        !self.gate.may_hold() && (self.workers == 1 || chunks < 2 * CHUNKS_A_THREAD)
-    }
-
     // The window's node by its spans, which the workers share.
     fn share_out(&self, bytes: &[u8], mode: &Mode, first: u64) -> Result<Node, BoardFault>
         requires numbers { first + chunks (length bytes.now) ≤ 2 ^ 54 }
-        requires little { length bytes.now ≤ WINDOW_LEN }
+        requires little { length bytes.now ≤ MAX_WINDOW_LEN }
         ensures node { IfOk result (λ node. node ≡ top mode.now first bytes.now) }
         ensures fault { IfErr result (λ fault. fault ≡ BoardFault.Memory) }
     {

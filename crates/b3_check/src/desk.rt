@@ -1,26 +1,25 @@
 //! Where a run reads and writes.
 
-ghost use Rattle.std.specs.Prelude.{◌≡◌, ◌-◌, ◌^◌, ◌<◌, ◌≤◌, Some, IfOk, OnOk, option_copied, vec_len};
-ghost use Rattle.b3_check.specs.Ahead.{HashesAhead, IsAhead, unopened};
-ghost use Rattle.b3_check.specs.Reading.{Answered, Asks, key_answer};
+ghost use Rattle.std.specs.Prelude.{◌≡◌, ◌-◌, ◌^◌, ◌<◌, ◌≤◌, IfSome, OnOk, vec_len};
+ghost use Rattle.b3_check.specs.Ahead.{IsNodeOf};
+ghost use Rattle.b3_check.specs.Reading.{Answered, Asks, Hashes, key_answer};
 ghost use Rattle.b3_check.specs.Runs.{HasRoom};
 ghost use Rattle.b3_check.specs.Scripts.Kind.{Key, Listed};
 ghost use Rattle.b3_check.specs.Sums.{key_name};
 ghost use Rattle.b3_check.specs.Tasks.{Says, report_of};
-ghost use Rattle.b3_check.specs.Windows.{filled_bytes};
 
 use crate::crew::Crew;
 use crate::fault::RunFault;
 use crate::hashing::Digester;
 use crate::key::KeyRead;
 use crate::lists::ListReader;
-use crate::opened::Opened;
 use crate::options::Limits;
 use crate::said::Said;
 use crate::shelf::{NoContent, Shelf};
 use crate::sink::Sink;
 use crate::writing::write_all;
 use b3_board::Gate;
+use b3_core::Node;
 use std::sync::Wait;
 use std::thread::Threads;
 
@@ -45,35 +44,35 @@ impl<'s, 'o, 'e, S, O, E> Drop for Desk<'s, 'o, 'e, S, O, E> {
     }
 }
 
-impl<'s, 'o, 'e, S: Shelf + Send, O: Sink, E: Sink> Desk<'s, 'o, 'e, S, O, E> {
-    ghost use Rattle.b3_check.specs.Desks.{left_of, loans, scene_of};
+impl<'s, 'o, 'e, S: Shelf + Send + Sync, O: Sink, E: Sink> Desk<'s, 'o, 'e, S, O, E> {
+    ghost use Rattle.b3_check.specs.Desks.{loans, scene_of};
 
-    /// Hashes the content of a name, of which `ahead` was opened, and answers whether it can be read, or why
-    /// not. The name `next` may be opened while the end of the content is hashed, and what came of it is
-    /// answered too.
+    /// Hashes the content of a name, of which the node may be known, and answers whether it can be read, or why
+    /// not.
+    #[tactic(auto, using(crate::proofs::AheadLemmas::digested_known))]
     pub fn hash<R: Threads + Wait + Sync, G: Gate + Sync>(
         &mut self,
         crew: &Crew<'_, R, G>,
         digester: &mut Digester,
         name: &str,
-        ahead: Option<Opened>,
-        next: Option<&str>,
+        node: Option<Node>,
         limits: Limits,
-    ) -> Result<(Result<(), NoContent>, Option<Opened>), RunFault>
-        requires ahead { IsAhead limits (scene_of S.Shelf O.Sink E.Sink self.old) (filled_bytes digester.old.current)
-            (left_of S.Shelf self.old) (Some name.now) ahead }
-        requires room { HasRoom (unopened ahead (scene_of S.Shelf O.Sink E.Sink self.old)) 1 }
+    ) -> Result<Result<(), NoContent>, RunFault>
+        requires known { IfSome node (IsNodeOf (scene_of S.Shelf O.Sink E.Sink self.old).told
+            digester.old.output.mode name.now) }
+        requires room { HasRoom (scene_of S.Shelf O.Sink E.Sink self.old) 1 }
         requires some_turns { 0 < limits.turns }
         requires turns { limits.turns ≤ 2 ^ 40 }
-        ensures hashed { HashesAhead digester.old.output limits name.now
-            (unopened ahead (scene_of S.Shelf O.Sink E.Sink self.old))
+        ensures hashed { Hashes digester.old.output limits name.now (scene_of S.Shelf O.Sink E.Sink self.old)
             (scene_of S.Shelf O.Sink E.Sink self.new) digester.new.digest.items result }
-        ensures opened { IfOk result (λ done. IsAhead limits (scene_of S.Shelf O.Sink E.Sink self.new)
-            (filled_bytes digester.new.current) (left_of S.Shelf self.new) (option_copied next.entry) done.1) }
         ensures output { digester.new.output ≡ digester.old.output }
         ensures loans { loans self.new ≡ loans self.old }
     {
-        digester.hash_name(crew, self.shelf, name, ahead, next, limits)
+        if let Some(node) = node {
+            digester.take_node(node);
+            return Ok(Ok(()));
+        }
+        digester.hash_name(crew, self.shelf, name, limits)
     }
 
     /// Reads the key, or answers why it cannot be read.
@@ -104,11 +103,9 @@ impl<'s, 'o, 'e, S: Shelf + Send, O: Sink, E: Sink> Desk<'s, 'o, 'e, S, O, E> {
 
     /// Writes a report to the two sinks.
     pub fn say(&mut self, said: &Said) -> Result<(), RunFault>
-        requires out { O.failures self.old.out.now < 2 ^ 64 - 1 }
-        requires err { E.failures self.old.err.now < 2 ^ 64 - 1 }
+        requires { HasRoom (scene_of S.Shelf O.Sink E.Sink self.old) 0 }
         ensures said { Says (report_of said.now) (scene_of S.Shelf O.Sink E.Sink self.old)
             (scene_of S.Shelf O.Sink E.Sink self.new) result }
-        ensures left { left_of S.Shelf self.new ≡ left_of S.Shelf self.old }
         ensures loans { loans self.new ≡ loans self.old }
     {
         write_all(self.out, said.out.as_slice())?;

@@ -1,7 +1,6 @@
 //! What a run does, item after item.
 
-ghost use Rattle.std.specs.Prelude.{◌≡◌, ℕ, Bool, List, [], ◌∷◌, true, false, map, string_bytes, IfOk, IfSome, MatchOption, option_copied};
-ghost use Rattle.b3_check.specs.Ahead.{first_name, next_tasks};
+ghost use Rattle.std.specs.Prelude.{◌≡◌, ℕ, Bool, List, [], ◌∷◌, true, false, map, string_bytes, IfOk, IfNone, IfSome, MatchOption};
 ghost use Rattle.b3_check.specs.Sums.{is_bad_name, shows_name};
 ghost use Rattle.b3_check.specs.Tasks.{IsFit, IsFitItem, Task, bytes_of, len_of, name_asked, name_task, report_of, subject_report, task_of};
 
@@ -52,16 +51,6 @@ impl Subject<'_> {
     }
 }
 
-/// The name that the next item asks for, if it asks for one.
-pub fn next_name<'i>(next: Option<&'i Item<'_>>) -> Option<&'i str>
-    ensures { option_copied result ≡ first_name (next_tasks next.entry) }
-{
-    match next {
-        Some(Item::Ask(subject)) => Some(subject.name()),
-        Some(Item::Say(_)) | None => None,
-    }
-}
-
 /// Items, one after the other.
 pub trait Plan<'a> {
     /// What is left to do.
@@ -74,6 +63,7 @@ pub trait Plan<'a> {
     fn next(&mut self) -> Result<Option<Item<'a>>, AllocError>
         ensures next { IfOk result (λ next. MatchOption next (left self.old ≡ [])
             (λ item. left self.old ≡ task_of item ∷ left self.new)) }
+        ensures over { IfOk result (λ next. IfNone next (left self.new ≡ [])) }
         ensures fit { IfOk result (λ next. IfSome next (λ item.
             (len : ℕ) → fits self.old len ≡ true → IsFitItem len item)) }
         ensures still_fits { (len : ℕ) → fits self.new len ≡ fits self.old len };

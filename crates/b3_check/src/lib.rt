@@ -2,6 +2,7 @@
 //! what it writes to its two sinks.
 #![tactic(auto)]
 
+mod ahead;
 mod buffer;
 mod check;
 mod crew;
@@ -15,8 +16,8 @@ mod list_lines;
 mod lists;
 mod memory_shelf;
 mod memory_sink;
-mod opened;
 mod options;
+mod pieces;
 mod room;
 mod said;
 mod shelf;

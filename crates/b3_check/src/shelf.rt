@@ -1,4 +1,4 @@
-ghost use Rattle.std.specs.Prelude.{◌≡◌, ℕ, ◌+◌, ◌-◌, ◌^◌, ◌<◌, ◌≤◌, ◌&&◌, Bool, false, IsTrue, List, take, length, Option, IsSome, IsOk, OnOk, IfOk, IfErr, is_ok, is_err, if◌then◌else◌};
+ghost use Rattle.std.specs.Prelude.{◌≡◌, ℕ, ◌+◌, ◌-◌, ◌^◌, ◌<◌, ◌≤◌, ◌&&◌, Bool, false, IsTrue, List, take, length, Option, IsSome, IsOk, OnOk, IfOk, IfErr, IfSome, drop, is_ok, is_err, if◌then◌else◌};
 ghost use Rattle.b3_check.specs.Contents.{Contents, Gives, HasContent, LacksContent};
 
 /// Why a name gives no content.
@@ -60,9 +60,29 @@ pub trait Shelf {
         ensures told { told self.new ≡ told self.old }
         ensures still_sure { is_sure self.new ≡ is_sure self.old };
 
-    /// Whether the bytes of this name may be long in coming, as those of a terminal or a socket. Such a name
-    /// is not begun before the run comes to it, so that no line waits for it.
-    fn may_wait(&self, _name: &str) -> bool {
-        true
+    /// Copies the whole content of a name to the front of `room`, and answers how many bytes it has. Else it
+    /// answers how much room might do, or 0: there is no plain file of this name, or none that is soon read. It
+    /// changes nothing, so that many threads may ask at once.
+    fn peek(&self, _name: &str, _room: &mut [u8]) -> Result<usize, usize>
+        ensures within { IfOk result (λ n. n ≤ length _room.old) }
+        ensures content { IfOk result (λ n. HasContent (told self.now) _name.now (take n _room.new)) }
+    {
+        Err(0)
+    }
+
+    /// Fills the room with what is left of the file, from `place` on, as far as there is any, and answers how
+    /// many bytes that are; nothing where it cannot. The file stays where it is.
+    fn read_at(&self, _place: u64, _room: &mut [u8]) -> Option<usize>
+        ensures len { length _room.new ≡ length _room.old }
+        ensures within { IfSome result (λ n. n ≤ length _room.old) }
+        ensures bytes { IsSome (told self.now)
+            → IfSome result (λ n. take n _room.new ≡ take (length _room.old) (drop _place (left self.now))) }
+    {
+        None
+    }
+
+    /// How many bytes are left of the file, of which nothing is promised, or 0 where that is not known.
+    fn len_hint(&self) -> u64 {
+        0
     }
 }

@@ -31,7 +31,7 @@ use std::thread::Threads;
 ///
 /// A digest is `length` bytes of the output from place `seek` on (BLAKE3 (2020), 2.6). With the key
 /// `Keyed` the name `-` is read first, at most 33 bytes of it. A run fault ends the run.
-pub fn run_sum<R: Threads + Wait + Sync, S: Shelf + Send, O: Sink, E: Sink, G: Gate + Sync>(
+pub fn run_sum<R: Threads + Wait + Sync, S: Shelf + Send + Sync, O: Sink, E: Sink, G: Gate + Sync>(
     rt: &R,
     alloc: Global,
     shelf: &mut S,
@@ -79,7 +79,7 @@ pub fn run_sum<R: Threads + Wait + Sync, S: Shelf + Send, O: Sink, E: Sink, G: G
 }
 
 // Writes the digest of each name.
-fn sum_names<R: Threads + Wait + Sync, G: Gate + Sync, S: Shelf + Send, O: Sink, E: Sink>(
+fn sum_names<R: Threads + Wait + Sync, G: Gate + Sync, S: Shelf + Send + Sync, O: Sink, E: Sink>(
     alloc: Global,
     crew: Crew<'_, R, G>,
     desk: &mut Desk<'_, '_, '_, S, O, E>,
@@ -114,7 +114,7 @@ fn sum_names<R: Threads + Wait + Sync, G: Gate + Sync, S: Shelf + Send, O: Sink,
 }
 
 // The mode of a choice of key, which may have to be read.
-fn find_mode<S: Shelf + Send, O: Sink, E: Sink>(
+fn find_mode<S: Shelf + Send + Sync, O: Sink, E: Sink>(
     desk: &mut Desk<'_, '_, '_, S, O, E>,
     key: &KeyChoice,
 ) -> Result<Mode, RunFault>

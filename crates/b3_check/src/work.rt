@@ -1,25 +1,25 @@
 //! The loop that both engines go through.
 
-ghost use Rattle.std.specs.Prelude.{◌≡◌, ◌+◌, ◌-◌, ◌^◌, ◌<◌, ◌≤◌, Some, true, length, IfOk};
-ghost use Rattle.b3_check.specs.Ahead.{GivesAhead, IsAhead, RunsAhead, first_name, next_tasks, task_name, unopened};
-ghost use Rattle.b3_check.specs.Desks.{left_of, loans, scene_of};
+ghost use Rattle.std.specs.Prelude.{◌≡◌, ℕ, ◌+◌, ◌-◌, ◌^◌, ◌<◌, ◌≤◌, ◌∷◌, [], All, true, length, IfOk, IfSome, MatchOption, OnOk};
+ghost use Rattle.b3_check.specs.Ahead.{AreKnown, IsKnown, IsNodeOf, tasks_then};
+ghost use Rattle.b3_check.specs.Desks.{loans, scene_of};
 ghost use Rattle.b3_check.specs.Runs.{HasRoom, Runs};
 ghost use Rattle.b3_check.specs.Tallies.{counted};
-ghost use Rattle.b3_check.specs.Tasks.{IsFit, IsFitItem, name_asked, subject_report, task_of, tasks_script};
-ghost use Rattle.b3_check.specs.Windows.{filled_bytes};
+ghost use Rattle.b3_check.specs.Tasks.{IsFit, IsFitItem, Gives, name_asked, subject_report, task_of, task_script, tasks_script};
 
+use crate::ahead::{Ahead, Hand, hands};
 use crate::crew::Crew;
 use crate::desk::Desk;
 use crate::fault::RunFault;
 use crate::hashing::{Digester, Output};
-use crate::items::{Item, Plan, Subject, next_name};
-use crate::opened::Opened;
+use crate::items::{Item, Plan, Subject};
 use crate::options::Limits;
 use crate::said::Said;
 use crate::shelf::Shelf;
 use crate::sink::Sink;
 use crate::tally::Tally;
 use b3_board::Gate;
+use b3_core::Node;
 use std::alloc::{AllocError, Global};
 use std::sync::Wait;
 use std::thread::Threads;
@@ -29,6 +29,7 @@ use std::thread::Threads;
 pub struct Worker<'c, R, G> {
     alloc: Global,
     crew: Crew<'c, R, G>,
+    hands: Vec<Hand>,
     digester: Digester,
     limits: Limits,
     ghost some_turns: { 0 < limits.turns },
@@ -49,17 +50,20 @@ impl<'c, R: Threads + Wait + Sync, G: Gate + Sync> Worker<'c, R, G> {
         ensures output { IfOk result (λ worker. worker.digester.output ≡ output) }
         ensures limits { IfOk result (λ worker. worker.limits ≡ limits) }
     {
+        let size = crew.window_size();
+        let readers = crew.readers();
+        let hands = hands(alloc, readers)?;
         Ok(Worker {
             alloc,
             crew,
-            digester: Digester::new(alloc, output)?,
+            hands,
+            digester: Digester::new(alloc, output, size, readers)?,
             limits,
         })
     }
 
-    /// Does the items of a plan, one after the other. While the content of one is hashed, the name that
-    /// the next one asks for may be opened; what is written and counted is the same.
-    pub fn run<'p, S: Shelf + Send, O: Sink, E: Sink, P: Plan<'p>>(
+    /// Does the items of a plan, one after the other.
+    pub fn run<'p, S: Shelf + Send + Sync, O: Sink, E: Sink, P: Plan<'p>>(
         &mut self,
         desk: &mut Desk<'_, '_, '_, S, O, E>,
         plan: &mut P,
@@ -77,37 +81,65 @@ impl<'c, R: Threads + Wait + Sync, G: Gate + Sync> Worker<'c, R, G> {
         ensures output { self.new.digester.output ≡ self.old.digester.output }
     {
         let mut tally = Tally::none();
-        let mut ahead = None;
-        let mut next = plan.next()?;
-        while let Some(item) = next {
-            next = plan.next()?;
-            let (one, opened) = self.run_item(desk, &item, ahead, next.as_ref())?;
+        let mut ahead = Ahead::new(self.alloc);
+        while let Some((item, node)) = self.next(desk, &mut ahead, plan)? {
+            let one = self.run_item(desk, &item, node)?;
             tally.add(&one);
-            ahead = opened;
         }
         Ok(tally)
     }
 
-    // Does one item, of which `ahead` was opened, and opens what the next one asks for.
-    fn run_item<S: Shelf + Send, O: Sink, E: Sink>(
+    // The next item, with its node if that was found.
+    fn next<'p, S: Shelf + Send + Sync, O: Sink, E: Sink, P: Plan<'p>>(
+        &mut self,
+        desk: &Desk<'_, '_, '_, S, O, E>,
+        ahead: &mut Ahead<'p>,
+        plan: &mut P,
+    ) -> Result<Option<(Item<'p>, Option<Node>)>, AllocError>
+        requires known { AreKnown (scene_of S.Shelf O.Sink E.Sink desk.now).told self.old.digester.output.mode
+            ahead.old.items.items ahead.old.nodes.items }
+        ensures next { IfOk result (λ next. MatchOption next (tasks_then ahead.old.items.items (P.left plan.old) ≡ [])
+            (λ done. tasks_then ahead.old.items.items (P.left plan.old)
+            ≡ task_of done.0 ∷ tasks_then ahead.new.items.items (P.left plan.new))) }
+        ensures known { OnOk result (AreKnown (scene_of S.Shelf O.Sink E.Sink desk.now).told
+            self.old.digester.output.mode ahead.new.items.items ahead.new.nodes.items) }
+        ensures node { IfOk result (λ next. IfSome next (λ done.
+            IsKnown (scene_of S.Shelf O.Sink E.Sink desk.now).told self.old.digester.output.mode
+            (task_of done.0) done.1)) }
+        ensures fit { IfOk result (λ next. IfSome next (λ done. (len : ℕ)
+            → All (IsFitItem len) ahead.old.items.items → P.fits plan.old len ≡ true → IsFitItem len done.0)) }
+        ensures all_fit { OnOk result ((len : ℕ) → All (IsFitItem len) ahead.old.items.items
+            → P.fits plan.old len ≡ true → All (IsFitItem len) ahead.new.items.items) }
+        ensures still_fits { OnOk result ((len : ℕ) → P.fits plan.new len ≡ P.fits plan.old len) }
+        ensures limits { self.new.limits ≡ self.old.limits }
+        ensures output { self.new.digester.output ≡ self.old.digester.output }
+    {
+        let mode = self.digester.mode();
+        ahead.next(
+            &self.crew,
+            self.hands.as_mut_slice(),
+            &*desk.shelf,
+            &mode,
+            plan,
+        )
+    }
+
+    // Does one item.
+    fn run_item<S: Shelf + Send + Sync, O: Sink, E: Sink>(
         &mut self,
         desk: &mut Desk<'_, '_, '_, S, O, E>,
         item: &Item<'_>,
-        ahead: Option<Opened>,
-        next: Option<&Item<'_>>,
-    ) -> Result<(Tally, Option<Opened>), RunFault>
+        node: Option<Node>,
+    ) -> Result<Tally, RunFault>
         requires fit { IsFitItem self.old.digester.output.length item.now }
-        requires ahead { IsAhead self.old.limits (scene_of S.Shelf O.Sink E.Sink desk.old)
-            (filled_bytes self.old.digester.current) (left_of S.Shelf desk.old)
-            (task_name (task_of item.now)) ahead }
-        requires room { HasRoom (unopened ahead (scene_of S.Shelf O.Sink E.Sink desk.old)) 1 }
-        ensures run { RunsAhead self.old.limits self.old.digester.output (task_of item.now) (next_tasks next.entry)
-            (unopened ahead (scene_of S.Shelf O.Sink E.Sink desk.old))
-            (scene_of S.Shelf O.Sink E.Sink desk.new) result }
-        ensures ahead { IfOk result (λ done. IsAhead self.old.limits (scene_of S.Shelf O.Sink E.Sink desk.new)
-            (filled_bytes self.new.digester.current) (left_of S.Shelf desk.new)
-            (first_name (next_tasks next.entry)) done.1) }
-        ensures one { IfOk result (λ done. counted done.0 ≡ 1) }
+        requires known { IsKnown (scene_of S.Shelf O.Sink E.Sink desk.old).told self.old.digester.output.mode
+            (task_of item.now) node }
+        requires room { HasRoom (scene_of S.Shelf O.Sink E.Sink desk.old) 1 }
+        ensures run { Runs self.old.limits (task_script self.old.digester.output (task_of item.now))
+            (scene_of S.Shelf O.Sink E.Sink desk.old) (scene_of S.Shelf O.Sink E.Sink desk.new) result }
+        ensures one { IfOk result (λ tally. counted tally ≡ 1) }
+        ensures shelf_count { (scene_of S.Shelf O.Sink E.Sink desk.new).failures
+            ≤ (scene_of S.Shelf O.Sink E.Sink desk.old).failures + 1 }
         ensures loans { loans desk.new ≡ loans desk.old }
         ensures limits { self.new.limits ≡ self.old.limits }
         ensures output { self.new.digester.output ≡ self.old.digester.output }
@@ -115,52 +147,45 @@ impl<'c, R: Threads + Wait + Sync, G: Gate + Sync> Worker<'c, R, G> {
         match item {
             Item::Say(said) => {
                 desk.say(said)?;
-                Ok((said.tally, None))
+                Ok(said.tally)
             }
             Item::Ask(subject) => {
-                let (said, opened) = self.find(desk, subject, ahead, next)?;
+                let said = self.find(desk, subject, node)?;
                 desk.say(&said)?;
-                Ok((said.tally, opened))
+                Ok(said.tally)
             }
         }
     }
 
     // Asks for a name, and answers what is to be said of it.
-    fn find<S: Shelf + Send, O: Sink, E: Sink>(
+    fn find<S: Shelf + Send + Sync, O: Sink, E: Sink>(
         &mut self,
         desk: &mut Desk<'_, '_, '_, S, O, E>,
         subject: &Subject<'_>,
-        ahead: Option<Opened>,
-        next: Option<&Item<'_>>,
-    ) -> Result<(Said, Option<Opened>), RunFault>
+        node: Option<Node>,
+    ) -> Result<Said, RunFault>
         requires fit { IsFit self.old.digester.output.length subject.now }
-        requires ahead { IsAhead self.old.limits (scene_of S.Shelf O.Sink E.Sink desk.old)
-            (filled_bytes self.old.digester.current) (left_of S.Shelf desk.old) (Some (name_asked subject.now)) ahead }
-        requires room { HasRoom (unopened ahead (scene_of S.Shelf O.Sink E.Sink desk.old)) 1 }
-        ensures gives { GivesAhead self.old.limits self.old.digester.output (name_asked subject.now)
-            (subject_report subject.now) (next_tasks next.entry)
-            (unopened ahead (scene_of S.Shelf O.Sink E.Sink desk.old))
-            (scene_of S.Shelf O.Sink E.Sink desk.new) result }
-        ensures ahead { IfOk result (λ done. IsAhead self.old.limits (scene_of S.Shelf O.Sink E.Sink desk.new)
-            (filled_bytes self.new.digester.current) (left_of S.Shelf desk.new)
-            (first_name (next_tasks next.entry)) done.1) }
+        requires known { IfSome node (IsNodeOf (scene_of S.Shelf O.Sink E.Sink desk.old).told
+            self.old.digester.output.mode (name_asked subject.now)) }
+        requires room { HasRoom (scene_of S.Shelf O.Sink E.Sink desk.old) 1 }
+        ensures gives { Gives self.old.limits self.old.digester.output (name_asked subject.now)
+            (subject_report subject.now)
+            (scene_of S.Shelf O.Sink E.Sink desk.old) (scene_of S.Shelf O.Sink E.Sink desk.new) result }
         ensures loans { loans desk.new ≡ loans desk.old }
         ensures limits { self.new.limits ≡ self.old.limits }
         ensures output { self.new.digester.output ≡ self.old.digester.output }
     {
-        let behind = next_name(next);
-        let (whole, opened) = desk.hash(
+        let whole = desk.hash(
             &self.crew,
             &mut self.digester,
             subject.name(),
-            ahead,
-            behind,
+            node,
             self.limits,
         )?;
         let digest = match whole {
             Ok(()) => Ok(self.digester.digest()),
             Err(why) => Err(why),
         };
-        Ok((subject.said(self.alloc, digest)?, opened))
+        Ok(subject.said(self.alloc, digest)?)
     }
 }

@@ -3,18 +3,20 @@
 ghost use Rattle.std.specs.Prelude.{◌≡◌, ◌^◌, ◌≤◌};
 ghost use Rattle.b3_check.specs.Options.{CanCheck, CanRun};
 
-mod ahead;
+mod beside;
 mod checks;
 mod devices;
 mod faults;
 mod faulty_files;
+mod in_order;
 mod lettered_files;
 mod memory;
-mod overlap;
+mod pieces;
 mod plain_lines;
 mod random;
 mod recording;
 mod report;
+mod slow_names;
 mod strictness;
 mod sums;
 mod windows;

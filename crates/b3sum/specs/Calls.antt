@@ -2,10 +2,10 @@
 use Rattle.std.specs.Prelude.{◌≡◌, ◌⊎◌, ⊤, ℕ, Result, Ok, Err, IsOk}
 use Rattle.std.specs.declared.io.Error.{Error}
 use Rattle.b3_check.specs.Runs.{Scene}
-use Rattle.b3sum.specs.Programs.{Ends}
-use Rattle.b3sum.specs.Stops.{EndsBy, IsStopForInput}
-use Rattle.b3sum.specs.declared.stop.Stop.{Stop}
-use Rattle.b3sum.specs.declared.words.Words.{Words}
+use Rattle.b3_program.specs.Programs.{Ends}
+use Rattle.b3_program.specs.Stops.{EndsBy, IsStopForInput}
+use Rattle.b3_program.specs.declared.stop.Stop.{Stop}
+use Rattle.b3_program.specs.declared.words.Words.{Words}
 
 -- where there are no arguments, why; what is wrong with arguments is for the parser of words to say
 abbrev pub IsStopOf : {A : Type 0} → Result A Error → Stop → Type 0

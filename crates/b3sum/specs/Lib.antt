@@ -1,7 +1,2 @@
-pub mod Files
-pub mod Usages
-pub mod Tasks
-pub mod Said
-pub mod Stops
-pub mod Programs
+pub mod Refusals
 pub mod Calls

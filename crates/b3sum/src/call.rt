@@ -4,18 +4,17 @@ ghost use Rattle.std.specs.Prelude.{◌^◌, ◌<◌, IfErr, IsOk, OnOk};
 ghost use Rattle.b3_check.specs.Runs.{scene};
 ghost use Rattle.b3sum.specs.Calls.{EndsCall, IsStopOf};
 
-use crate::run::run_words;
-use crate::stop::Stop;
-use crate::words::Words;
+use crate::words::read_words;
 use b3_board::Gate;
 use b3_check::{Shelf, Sink};
+use b3_program::{Stop, Words, run_words};
 use std::alloc::Global;
 use std::io;
 use std::sync::Wait;
 use std::thread::Threads;
 
 /// Does what the arguments of a call ask for, and answers the status of the program.
-pub fn run_call<R: Threads + Wait + Sync, S: Shelf + Send, O: Sink, E: Sink, G: Gate + Sync>(
+pub fn run_call<R: Threads + Wait + Sync, S: Shelf + Send + Sync, O: Sink, E: Sink, G: Gate + Sync>(
     rt: &R,
     alloc: Global,
     arguments: io::Result<Vec<String>>,
@@ -31,17 +30,17 @@ pub fn run_call<R: Threads + Wait + Sync, S: Shelf + Send, O: Sink, E: Sink, G: 
         (scene S.Shelf O.Sink E.Sink shelf.old out.old err.old)
         (scene S.Shelf O.Sink E.Sink shelf.new out.new err.new) result }
 {
-    match read_words(alloc, arguments) {
+    match read_arguments(alloc, arguments) {
         Ok(words) => run_words(rt, alloc, shelf, words, out, err, gate),
         Err(stop) => stop.say(out, err),
     }
 }
 
 // The words of the arguments, of which the first is the program's own name.
-fn read_words(alloc: Global, arguments: io::Result<Vec<String>>) -> Result<Words, Stop>
+fn read_arguments(alloc: Global, arguments: io::Result<Vec<String>>) -> Result<Words, Stop>
     ensures given { OnOk result (IsOk arguments) }
     ensures stop { IfErr result (λ stop. IsStopOf arguments stop) }
 {
     let arguments = arguments?;
-    Words::read(alloc, arguments.as_slice())
+    read_words(alloc, arguments.as_slice())
 }

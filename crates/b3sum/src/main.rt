@@ -1,27 +1,18 @@
 //! `b3sum`: BLAKE3 checksums of files, written and checked.
 //!
-//! `main` opens the streams and hands the arguments to [`run_call`], which reads the words, settles what
-//! they ask for, and runs the engine of `b3_check`.
+//! `main` opens the streams and hands the arguments to [`run_call`], which has `clap` read the words, and `b3_program`
+//! do what they ask for.
 #![tactic(auto)]
 
 mod call;
 mod command;
-mod files;
-mod outputs;
-mod retrying;
-mod run;
-mod say;
-mod stop;
-mod task;
 #[cfg(test)]
 mod tests;
-mod usage;
 mod words;
 
 use b3_board::OpenGate;
+use b3_program::{FileShelf, OutputSink};
 use call::run_call;
-use files::FileShelf;
-use outputs::OutputSink;
 use std::process::ExitCode;
 use std::rt::Env;
 use std::{env, io};

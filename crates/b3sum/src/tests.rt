@@ -1,5 +1,4 @@
 // The program over words, and over shelves and sinks in memory.
 
 mod calls;
-mod devices;
 mod words;

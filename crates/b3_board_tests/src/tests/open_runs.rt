@@ -34,6 +34,11 @@ impl Meeting {
     fn have_come(&self) -> bool {
         self.workers.load(Ordering::SeqCst).count_ones() >= self.wanted
     }
+
+    // All have come, and none of them waited in vain for another.
+    fn have_met(&self) -> bool {
+        self.have_come() && !self.is_missed.load(Ordering::SeqCst)
+    }
 }
 
 impl Gate for Meeting {
@@ -65,7 +70,7 @@ fn all_workers_at_once(rt: HostRuntime) -> Result<(), Fail> {
         let plan = Plan::new(rt.alloc(), part, Mode::hash(), 64)?;
         let gate = Meeting::new(workers);
         let report = hash_parallel(&rt, rt.alloc(), &plan, workers, &gate)?;
-        assert!(&rt; gate.have_come(), "{workers} workers");
+        assert!(&rt; gate.have_met(), "{workers} workers");
         assert_eq!(&rt; report.root.node(), root_of(&rt, part));
         assert_eq!(&rt; report.swept, 0);
     }

@@ -23,7 +23,7 @@ use std::thread::{self, Threads};
 // Holds the first call until another one has come, for at most a million turns. It keeps the sums of the workers' and
 // the spans' numbers that it is told.
 #[derive(Drop)]
-struct TwoAtOnce {
+pub(super) struct TwoAtOnce {
     calls: AtomicU64,
     met: AtomicU64,
     workers: AtomicU64,
@@ -31,13 +31,18 @@ struct TwoAtOnce {
 }
 
 impl TwoAtOnce {
-    fn new() -> TwoAtOnce {
+    pub(super) fn new() -> TwoAtOnce {
         TwoAtOnce {
             calls: AtomicU64::new(0),
             met: AtomicU64::new(0),
             workers: AtomicU64::new(0),
             spans: AtomicU64::new(0),
         }
+    }
+
+    // Whether two workers were inside at once.
+    pub(super) fn has_met(&self) -> bool {
+        self.met.load(Ordering::SeqCst) == 1
     }
 }
 
@@ -59,7 +64,7 @@ impl Gate for TwoAtOnce {
 }
 
 // Lets the others go on. It does not say that it holds nobody, so each worker has a thread, up to the spans.
-pub struct Yielding;
+pub(super) struct Yielding;
 
 impl Gate for Yielding {
     fn pass(&self, _worker: usize, _span: usize) {
@@ -68,7 +73,7 @@ impl Gate for Yielding {
 }
 
 // The sum of the workers' chunks.
-fn sum_of(report: &Report) -> u64 {
+pub(super) fn sum_of(report: &Report) -> u64 {
     let mut sum = 0u64;
     for share in report.shares.iter() {
         sum = sum.wrapping_add(*share);

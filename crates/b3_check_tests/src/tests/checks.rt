@@ -17,7 +17,7 @@ use std::test::Fail;
 use std::thread::Threads;
 
 // Checks one list with these options.
-pub fn check_one<R: Threads + Wait + Sync, S: Shelf + Send, O: Sink, E: Sink>(
+pub fn check_one<R: Threads + Wait + Sync, S: Shelf + Send + Sync, O: Sink, E: Sink>(
     rt: &R,
     alloc: Global,
     shelf: &mut S,

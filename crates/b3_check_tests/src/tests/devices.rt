@@ -163,10 +163,6 @@ impl Shelf for FailingShelf<'_> {
         self.place += count;
         Ok(count)
     }
-
-    fn may_wait(&self, _name: &str) -> bool {
-        false
-    }
 }
 
 /// Files that grow with their names: that of one letter is empty, and each further letter adds `step` bytes
@@ -221,9 +217,5 @@ impl Shelf for GrowingShelf<'_> {
         room[..count].copy_from_slice(&self.rest[..count]);
         self.rest = &self.rest[count..];
         Ok(count)
-    }
-
-    fn may_wait(&self, _name: &str) -> bool {
-        false
     }
 }

@@ -87,8 +87,4 @@ impl Shelf for FaultyFiles {
         }
         self.files.read(room)
     }
-
-    fn may_wait(&self, _name: &str) -> bool {
-        false
-    }
 }

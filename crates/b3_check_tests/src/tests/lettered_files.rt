@@ -6,7 +6,7 @@ use b3_check::{CannotRead, NoContent, Shelf};
 use std::alloc::Global;
 
 /// A name is a letter and a number of bytes: `g` is a file of so many bytes of the content, `f` one that fails
-/// at its second read, `m` is not there, and `s` is a file that may be long in coming. The name `l` has the list.
+/// at its second read, and `m` is not there. The name `l` has the list.
 #[derive(Drop)]
 pub struct LetteredFiles<'a> {
     content: &'a [u8],
@@ -15,6 +15,8 @@ pub struct LetteredFiles<'a> {
     // how many bytes a read gives at most, and how many reads come before one that fails
     most: usize,
     reads_before: u64,
+    // whether a name may be peeked
+    is_open: bool,
     is_begun: bool,
     failures: u64,
     // the names that were begun, each with a line feed
@@ -31,10 +33,20 @@ impl<'a> LetteredFiles<'a> {
             rest: &[],
             most,
             reads_before: u64::MAX,
+            is_open: false,
             is_begun: false,
             failures: 0,
             begun: Vec::new(alloc),
         }
+    }
+
+    /// The same files, of which each may be peeked.
+    pub fn open(alloc: Global, content: &'a [u8], list: &'a [u8]) -> LetteredFiles<'a>
+        ensures { ⟦<LetteredFiles<'a> as Shelf>⟧.failures result ≡ 0 }
+    {
+        let mut files = LetteredFiles::new(alloc, content, list, content.len());
+        files.is_open = true;
+        files
     }
 
     pub fn begun(&self) -> &[u8] {
@@ -109,7 +121,15 @@ impl Shelf for LetteredFiles<'_> {
         Ok(count)
     }
 
-    fn may_wait(&self, name: &str) -> bool {
-        name.starts_with("s")
+    fn peek(&self, name: &str, room: &mut [u8]) -> Result<usize, usize> {
+        if !self.is_open || !name.starts_with("g") {
+            return Err(0);
+        }
+        let len = number_in(name).min(self.content.len());
+        if len > room.len() {
+            return Err(len);
+        }
+        room[..len].copy_from_slice(&self.content[..len]);
+        Ok(len)
     }
 }

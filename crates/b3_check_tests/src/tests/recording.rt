@@ -177,10 +177,6 @@ impl Shelf for RecordedFiles<'_> {
         }
         Ok(count)
     }
-
-    fn may_wait(&self, _name: &str) -> bool {
-        false
-    }
 }
 
 /// Takes pieces of one length at most. Once, after so many writes, a write fails.

@@ -15,7 +15,7 @@ use std::test::Fail;
 use std::thread::Threads;
 
 // Sums one name with these options.
-pub fn sum_one<R: Threads + Wait + Sync, S: Shelf + Send, O: Sink, E: Sink>(
+pub fn sum_one<R: Threads + Wait + Sync, S: Shelf + Send + Sync, O: Sink, E: Sink>(
     rt: &R,
     alloc: Global,
     shelf: &mut S,

@@ -174,6 +174,11 @@ impl AllAtOnce {
     fn have_come(&self) -> bool {
         self.workers.load(Ordering::SeqCst).count_ones() >= self.wanted
     }
+
+    // All have come, and none of them waited in vain for another.
+    fn have_met(&self) -> bool {
+        self.have_come() && !self.is_missed.load(Ordering::SeqCst)
+    }
 }
 
 impl Gate for AllAtOnce {
@@ -210,7 +215,7 @@ fn all_workers_at_once(rt: HostRuntime) -> Result<(), Fail> {
         );
         assert_eq!(&rt; answer, Ok(tally(1, 0, 0)));
         assert_eq!(&rt; out.bytes(), line.as_slice());
-        assert!(&rt; gate.have_come(), "{workers} workers");
+        assert!(&rt; gate.have_met(), "{workers} workers");
 
         let mut shelf = GrowingShelf::new(content.as_slice(), 1_048_576, line.as_slice());
         let mut asked = check_options(false, 1_000);
@@ -220,7 +225,7 @@ fn all_workers_at_once(rt: HostRuntime) -> Result<(), Fail> {
             &rt, alloc, &mut shelf, &lists, &mut out, &mut err, &asked, &gate,
         );
         assert_eq!(&rt; answer, Ok(tally(1, 0, 0)));
-        assert!(&rt; gate.have_come(), "{workers} workers");
+        assert!(&rt; gate.have_met(), "{workers} workers");
         assert!(&rt; err.bytes().is_empty());
     }
     Ok(())

@@ -3,10 +3,9 @@
 ghost use Rattle.std.specs.Prelude.{◌≡◌};
 
 use crate::call::run_call;
-use crate::files::FileShelf;
-use crate::outputs::OutputSink;
 use b3_board::OpenGate;
 use b3_check::{MemoryShelf, MemorySink, Shelf, Sink};
+use b3_program::{FileShelf, OutputSink};
 use std::alloc::{AllocError, Global};
 use std::io;
 use std::process::Abort;
@@ -26,7 +25,7 @@ fn arguments(alloc: Global, words: &[&str]) -> Result<Vec<String>, AllocError> {
 }
 
 // A call over this shelf, which writes these texts and ends with this status.
-fn assert_call<R: Abort + Threads + Wait + Sync, S: Shelf + Send>(
+fn assert_call<R: Abort + Threads + Wait + Sync, S: Shelf + Send + Sync>(
     rt: &R,
     alloc: Global,
     shelf: &mut S,
@@ -383,7 +382,7 @@ fn arguments_that_cannot_be_had(rt: HostRuntime) {
 }
 
 // A call with these words, whose output takes three bytes.
-fn assert_cut_short<R: Abort + AllocGlobal + Threads + Wait + Sync, S: Shelf + Send>(
+fn assert_cut_short<R: Abort + AllocGlobal + Threads + Wait + Sync, S: Shelf + Send + Sync>(
     rt: &R,
     shelf: &mut S,
     words: &[&str],

@@ -1,10 +1,8 @@
 // What `clap` reads of words, and that settling them takes no memory.
 
-use crate::stop::Stop;
-use crate::task::{Task, settle};
-use crate::usage::Usage;
-use crate::words::Words;
+use crate::words::read_words;
 use b3_check::{MAX_OUTPUT_LEN, MAX_WORKERS};
+use b3_program::{Stop, Task, Usage, Words, settle};
 use std::alloc::{AllocError, Global};
 use std::process::Abort;
 
@@ -16,7 +14,7 @@ fn read(alloc: Global, words: &[&str]) -> Result<Words, Stop> {
         all.push(String::from_str(alloc, word)?)
             .map_err(AllocError::from)?;
     }
-    Words::read(alloc, all.as_slice())
+    read_words(alloc, all.as_slice())
 }
 
 // The words are not taken, and the text says why.

@@ -46,21 +46,24 @@ pub run-requires : goal.run-requires
 run-requires g c = λ _.
     let names = c.args.names.now in
     let seen = scene_of g.S.Shelf g.O.Sink g.E.Sink in
+    let found = c.in_ok-mode.ensures.found in
     let room : HasRoom (seen c.find_mode.new.desk) (length names) =
-    mode_room c.args.options.now.key c.in_ok-mode.mode _ _ (length names) c.in_ok-mode.ensures.found
-    c.requires.room in (
+    mode_room c.args.options.now.key c.in_ok-mode.mode _ _ (length names) found c.requires.room in (
       c.type_bounds.send-S,
       (
         c.type_bounds.sync-R,
         (
           c.type_bounds.sync-G,
           (
-            (refl, (refl, tt)),
+            c.type_bounds.sync-S,
             (
-              refl,
+              (refl, (refl, tt)),
               (
-                subst (λ n. n < 2 ^ 63) (sym (length-map names _)) (omega (arith, c.requires.names)),
-                subst (λ n. HasRoom (seen c.find_mode.new.desk) n) (sym (length-map names _)) room,
+                refl,
+                (
+                  subst (λ n. n < 2 ^ 63) (sym (length-map names _)) (omega (arith, c.requires.names)),
+                  subst (λ n. HasRoom (seen c.find_mode.new.desk) n) (sym (length-map names _)) room,
+                ),
               ),
             ),
           ),

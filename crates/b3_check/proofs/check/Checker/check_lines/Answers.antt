@@ -21,16 +21,19 @@ run-requires g c = λ _.
         (
           c.type_bounds.sync-G,
           (
-            (refl, (refl, tt)),
+            c.type_bounds.sync-S,
             (
-              ap (λ (output : Output). output.length == 32) c.args.self.now.output,
+              (refl, (refl, tt)),
               (
-                omega (arith, few, text, size, ok, c.args.self.now.largest),
-                record {
-                  shelf = omega (arith, c.requires.room.shelf, few, text, size, ok);
-                  out = c.requires.room.out;
-                  err = c.requires.room.err;
-                },
+                ap (λ (output : Output). output.length == 32) c.args.self.now.output,
+                (
+                  omega (arith, few, text, size, ok, c.args.self.now.largest),
+                  record {
+                    shelf = omega (arith, c.requires.room.shelf, few, text, size, ok);
+                    out = c.requires.room.out;
+                    err = c.requires.room.err;
+                  },
+                ),
               ),
             ),
           ),

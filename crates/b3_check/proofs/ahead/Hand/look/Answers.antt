@@ -1,0 +1,11 @@
+use Rattle.b3_check.proofs.AheadLemmas.{found_for}
+use Rattle.b3_check.proofs.ahead.Hand.look.Goals as goal
+
+pub loop-preserved : goal.loop-preserved
+loop-preserved g c =
+    let told = g.S.Shelf.told c.args.shelf.now in
+    let items = c.args.items.now.items in
+    let node = rw c.name.ensures at c.in-Some-node_of.ensures.node in
+    let found = found_for items c.fetch_add-place.result c.in-Ask.subject c.in-Some.ensures.lookup c.in-Ask.is node in
+    let keeps = c.keep.ensures told c.args.mode.now items found in
+    record { found = keeps (rw c.in-Some-node_of.ensures.found c.loop.invariant.found) }

@@ -1,0 +1,340 @@
+//! The items that come next, and what is known of them: their names are hashed beside one another.
+
+ghost use Rattle.std.specs.Prelude.{◌≡◌, ℕ, ◌+◌, ◌<◌, ◌≤◌, List, [], ◌∷◌, All, None, Option, take, true, length, replicate, vec_len, IfOk, IfSome, MatchOption, OnOk};
+ghost use Rattle.b3_core.specs.declared.modes.Mode.{Mode};
+ghost use Rattle.b3_check.specs.Ahead.{AreKnown, IsFound, IsKnown, IsNodeOf, tasks_then};
+ghost use Rattle.b3_check.specs.Contents.{Contents, HasContent};
+ghost use Rattle.b3_check.specs.Tasks.{IsFitItem, task_of};
+ghost use Rattle.b3_check.specs.declared.items.Item.{Item};
+
+use crate::crew::Crew;
+use crate::items::{Item, Plan};
+use crate::shelf::Shelf;
+use b3_board::Gate;
+use b3_core::{Mode, Node, top};
+use std::alloc::{AllocError, Global};
+use std::collections::VecDeque;
+use std::sync::Wait;
+use std::sync::atomic::{AtomicUsize, Ordering};
+use std::thread;
+use std::thread::Threads;
+
+/// How many items the first round takes: one for each of the most workers, and no more, so that the first line is
+/// not long in coming.
+const FIRST_ROUND: usize = 64;
+
+/// How many items a round takes at most. Each takes twice as many as the one before.
+const MOST_ITEMS: usize = 4_096;
+
+/// A round looks at no further item once it has hashed so many bytes.
+const ROUND_LEN: usize = 1 << 25;
+
+/// How long a content may be that is hashed beside others, and a byte behind it that tells that it has ended.
+const ROOM_LEN: usize = (1 << 21) + 1;
+
+/// The node of the item at a place.
+#[derive(Drop)]
+pub struct Found {
+    place: usize,
+    node: Node,
+}
+
+/// What a worker has in hand: room for a content, and what it found in this round.
+#[derive(Drop)]
+pub struct Hand {
+    room: Vec<u8>,
+    found: Vec<Found>,
+}
+
+impl Hand {
+    /// A hand that has found nothing. Its room grows for the contents that it reads.
+    pub fn new(alloc: Global) -> Result<Hand, AllocError> {
+        Ok(Hand {
+            room: Vec::with_capacity(alloc, ROOM_LEN)?,
+            found: Vec::with_capacity(alloc, MOST_ITEMS)?,
+        })
+    }
+
+    // Looks at items that no other hand has taken, until there are none or the round has hashed enough.
+    fn look<S: Shelf + Sync>(
+        &mut self,
+        shelf: &S,
+        mode: &Mode,
+        items: &VecDeque<Item<'_>>,
+        taken: &AtomicUsize,
+        hashed: &AtomicUsize,
+    )
+        ensures { All (IsFound (S.told shelf.now) mode.now items.now.items) self.new.found.items }
+    {
+        self.found.clear();
+        for _ in 0..items.len() {
+            if hashed.load(Ordering::Relaxed) >= ROUND_LEN {
+                return;
+            }
+            let place = taken.fetch_add(1, Ordering::Relaxed);
+            let Some(item) = items.get(place) else {
+                return;
+            };
+            let Item::Ask(subject) = item else {
+                continue;
+            };
+            let Some((node, len)) = self.node_of(shelf, mode, subject.name()) else {
+                continue;
+            };
+            hashed.fetch_add(len, Ordering::Relaxed);
+            keep(&mut self.found, Found { place, node });
+        }
+    }
+
+    // The node of the whole content of a name, and how many bytes it has, if it is soon read and not too long.
+    fn node_of<S: Shelf>(&mut self, shelf: &S, mode: &Mode, name: &str) -> Option<(Node, usize)>
+        ensures node { IfSome result (λ done. IsNodeOf (S.told shelf.now) mode.now name.now done.0) }
+        ensures found { self.new.found ≡ self.old.found }
+    {
+        let len = self.read(shelf, name)?;
+        Some((top(mode, 0, &self.room[..len]), len))
+    }
+
+    // Reads the whole content of a name into the room, which grows for it.
+    fn read<S: Shelf>(&mut self, shelf: &S, name: &str) -> Option<usize>
+        ensures within { IfSome result (λ n. n ≤ vec_len self.new.room) }
+        ensures content { IfSome result (λ n. HasContent (S.told shelf.now) name.now (take n self.new.room.items)) }
+        ensures found { self.new.found ≡ self.old.found }
+    {
+        let needed = match shelf.peek(name, self.room.as_mut_slice()) {
+            Ok(len) => return Some(len),
+            Err(needed) => needed,
+        };
+        if needed <= self.room.len() || needed > ROOM_LEN {
+            return None;
+        }
+        self.room
+            .resize(needed.next_power_of_two().min(ROOM_LEN), 0)
+            .ok()?;
+        shelf.peek(name, self.room.as_mut_slice()).ok()
+    }
+}
+
+// Keeps what was found, where there is memory for it.
+#[tactic(auto, using(crate::proofs::AheadLemmas::all_more))]
+fn keep(found: &mut Vec<Found>, one: Found)
+    ensures { (told : Option Contents) (mode : Mode) (items : List Item) → IsFound told mode items one
+        → All (IsFound told mode items) found.old.items → All (IsFound told mode items) found.new.items }
+{
+    match found.push(one) {
+        Ok(()) => {}
+        Err(_) => {}
+    }
+}
+
+/// So many hands, for so many workers.
+pub fn hands(alloc: Global, workers: usize) -> Result<Vec<Hand>, AllocError> {
+    let mut hands = Vec::with_capacity(alloc, workers)?;
+    for _ in 0..workers {
+        hands.push(Hand::new(alloc)?)?;
+    }
+    Ok(hands)
+}
+
+/// The items of a plan that come next, and the nodes that were found for the first of them.
+#[derive(Drop)]
+pub struct Ahead<'a> {
+    alloc: Global,
+    // how many items the next round takes
+    round: usize,
+    pub items: VecDeque<Item<'a>>,
+    pub nodes: VecDeque<Option<Node>>,
+    ghost some: { 0 < round },
+}
+
+impl<'a> Ahead<'a> {
+    /// No item is taken.
+    pub fn new(alloc: Global) -> Ahead<'a>
+        ensures items { result.items.items ≡ [] }
+        ensures nodes { result.nodes.items ≡ [] }
+    {
+        Ahead {
+            alloc,
+            round: FIRST_ROUND,
+            items: VecDeque::new(alloc),
+            nodes: VecDeque::new(alloc),
+        }
+    }
+
+    /// The next item of the plan, with its node if that was found.
+    pub fn next<R: Threads + Wait + Sync, G: Gate + Sync, S: Shelf + Sync, P: Plan<'a>>(
+        &mut self,
+        crew: &Crew<'_, R, G>,
+        hands: &mut [Hand],
+        shelf: &S,
+        mode: &Mode,
+        plan: &mut P,
+    ) -> Result<Option<(Item<'a>, Option<Node>)>, AllocError>
+        requires known { AreKnown (S.told shelf.now) mode.now self.old.items.items self.old.nodes.items }
+        ensures next { IfOk result (λ next. MatchOption next (tasks_then self.old.items.items (P.left plan.old) ≡ [])
+            (λ done. tasks_then self.old.items.items (P.left plan.old)
+            ≡ task_of done.0 ∷ tasks_then self.new.items.items (P.left plan.new))) }
+        ensures known { OnOk result (AreKnown (S.told shelf.now) mode.now self.new.items.items self.new.nodes.items) }
+        ensures node { IfOk result (λ next. IfSome next (λ done.
+            IsKnown (S.told shelf.now) mode.now (task_of done.0) done.1)) }
+        ensures fit { IfOk result (λ next. IfSome next (λ done. (len : ℕ)
+            → All (IsFitItem len) self.old.items.items → P.fits plan.old len ≡ true → IsFitItem len done.0)) }
+        ensures all_fit { OnOk result ((len : ℕ) → All (IsFitItem len) self.old.items.items
+            → P.fits plan.old len ≡ true → All (IsFitItem len) self.new.items.items) }
+        ensures still_fits { OnOk result ((len : ℕ) → P.fits plan.new len ≡ P.fits plan.old len) }
+    {
+        self.refill(crew, hands, shelf, mode, plan)?;
+        Ok(self.pop())
+    }
+
+    // Takes and looks at items, where nothing is known of the first.
+    fn refill<R: Threads + Wait + Sync, G: Gate + Sync, S: Shelf + Sync, P: Plan<'a>>(
+        &mut self,
+        crew: &Crew<'_, R, G>,
+        hands: &mut [Hand],
+        shelf: &S,
+        mode: &Mode,
+        plan: &mut P,
+    ) -> Result<(), AllocError>
+        requires known { AreKnown (S.told shelf.now) mode.now self.old.items.items self.old.nodes.items }
+        ensures left { OnOk result (tasks_then self.new.items.items (P.left plan.new)
+            ≡ tasks_then self.old.items.items (P.left plan.old)) }
+        ensures all { OnOk result (self.new.items.items ≡ [] → P.left plan.new ≡ []) }
+        ensures known { OnOk result (AreKnown (S.told shelf.now) mode.now self.new.items.items self.new.nodes.items) }
+        ensures fit { OnOk result ((len : ℕ) → All (IsFitItem len) self.old.items.items
+            → P.fits plan.old len ≡ true → All (IsFitItem len) self.new.items.items) }
+        ensures still_fits { OnOk result ((len : ℕ) → P.fits plan.new len ≡ P.fits plan.old len) }
+    {
+        if !self.nodes.is_empty() {
+            return Ok(());
+        }
+        let count = if hands.len() > 1 { self.round } else { 1 };
+        take(&mut self.items, plan, count)?;
+        self.nodes = look(self.alloc, crew, hands, shelf, mode, &self.items)?;
+        self.round = self.round.saturating_mul(2).min(MOST_ITEMS);
+        Ok(())
+    }
+
+    // Takes the first item with its node.
+    fn pop(&mut self) -> Option<(Item<'a>, Option<Node>)>
+        ensures items { MatchOption result (self.old.items.items ≡ [])
+            (λ done. self.old.items.items ≡ done.0 ∷ self.new.items.items) }
+        ensures none { self.old.items.items ≡ [] → self.new.items.items ≡ [] }
+        ensures known { (told : Option Contents) (mode : Mode)
+            → AreKnown told mode self.old.items.items self.old.nodes.items
+            → AreKnown told mode self.new.items.items self.new.nodes.items }
+        ensures fit { (len : ℕ) → All (IsFitItem len) self.old.items.items → All (IsFitItem len) self.new.items.items }
+        ensures first_fit { IfSome result (λ done. (len : ℕ) → All (IsFitItem len) self.old.items.items
+            → IsFitItem len done.0) }
+        ensures node { IfSome result (λ done. (told : Option Contents) (mode : Mode)
+            → AreKnown told mode self.old.items.items self.old.nodes.items
+            → IsKnown told mode (task_of done.0) done.1) }
+    {
+        let item = self.items.pop_front()?;
+        let node = self.nodes.pop_front().unwrap_or(None);
+        Some((item, node))
+    }
+}
+
+// Takes items, until there are so many of them or the plan has no more.
+fn take<'a, P: Plan<'a>>(
+    items: &mut VecDeque<Item<'a>>,
+    plan: &mut P,
+    count: usize,
+) -> Result<(), AllocError>
+    requires { 0 < count }
+    ensures left { OnOk result (tasks_then items.new.items (P.left plan.new)
+        ≡ tasks_then items.old.items (P.left plan.old)) }
+    ensures all { OnOk result (items.new.items ≡ [] → P.left plan.new ≡ []) }
+    ensures more { length items.old.items ≤ length items.new.items }
+    ensures fit { OnOk result ((len : ℕ) → All (IsFitItem len) items.old.items → P.fits plan.old len ≡ true
+        → All (IsFitItem len) items.new.items) }
+    ensures still_fits { OnOk result ((len : ℕ) → P.fits plan.new len ≡ P.fits plan.old len) }
+{
+    'items: while items.len() < count {
+        let Some(item) = plan.next()? else {
+            return Ok(());
+        };
+        items.push_back(item)?;
+    }
+    Ok(())
+}
+
+// The nodes that are found for the first items: the hands look at them beside one another.
+fn look<R: Threads + Wait + Sync, G: Gate + Sync, S: Shelf + Sync>(
+    alloc: Global,
+    crew: &Crew<'_, R, G>,
+    hands: &mut [Hand],
+    shelf: &S,
+    mode: &Mode,
+    items: &VecDeque<Item<'_>>,
+) -> Result<VecDeque<Option<Node>>, AllocError>
+    ensures { IfOk result (λ nodes. AreKnown (S.told shelf.now) mode.now items.now.items nodes.items) }
+{
+    if items.len() < 2 || hands.len() < 2 {
+        return Ok(VecDeque::new(alloc));
+    }
+    // Not more hands than items.
+    let count = hands.len().min(items.len());
+    let hands = &mut hands[..count];
+    let looked = look_all(crew, hands, shelf, mode, items).min(items.len());
+    let mut nodes = nothing_known(alloc, looked)?;
+    for hand in hands.iter() {
+        note(&mut nodes, hand.found.as_slice());
+    }
+    Ok(VecDeque::from_vec(nodes))
+}
+
+// Lets the hands look at items, each in a thread of its own, and answers how many were taken.
+fn look_all<R: Threads + Wait + Sync, G: Gate + Sync, S: Shelf + Sync>(
+    crew: &Crew<'_, R, G>,
+    hands: &mut [Hand],
+    shelf: &S,
+    mode: &Mode,
+    items: &VecDeque<Item<'_>>,
+) -> usize
+    requires { 0 < length hands.old }
+    ensures { All (λ hand. All (IsFound (S.told shelf.now) mode.now items.now.items) hand.found.items) hands.new }
+{
+    let taken = AtomicUsize::new(0);
+    let hashed = AtomicUsize::new(0);
+    let threads = hands.len();
+    thread::for_each_mut(
+        crew.runtime(),
+        hands,
+        threads,
+        &|_, hand: &mut Hand|
+            ensures { All (IsFound (S.told shelf.entry.now) mode.entry.now items.entry.now.items)
+                hand.exit.now.found.items }
+        { hand.look(shelf, mode, items, &taken, &hashed) },
+    );
+    taken.load(Ordering::Relaxed)
+}
+
+// So many nodes that are not known.
+fn nothing_known(alloc: Global, count: usize) -> Result<Vec<Option<Node>>, AllocError>
+    ensures { IfOk result (λ nodes. nodes.items ≡ replicate count None) }
+{
+    vec![in alloc; None; count]
+}
+
+// Notes what a hand found.
+fn note(nodes: &mut Vec<Option<Node>>, found: &[Found])
+    ensures { (told : Option Contents) (mode : Mode) (items : List Item) → All (IsFound told mode items) found.now
+        → AreKnown told mode items nodes.old.items → AreKnown told mode items nodes.new.items }
+{
+    for one in found {
+        note_one(nodes, one);
+    }
+}
+
+// Notes what was found for one item, if it has a place.
+#[tactic(auto, using(crate::proofs::AheadLemmas::known_set))]
+fn note_one(nodes: &mut Vec<Option<Node>>, one: &Found)
+    ensures { (told : Option Contents) (mode : Mode) (items : List Item) → IsFound told mode items one.now
+        → AreKnown told mode items nodes.old.items → AreKnown told mode items nodes.new.items }
+{
+    if one.place < nodes.len() {
+        nodes[one.place] = Some(one.node);
+    }
+}

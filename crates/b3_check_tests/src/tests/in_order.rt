@@ -1,0 +1,288 @@
+// Names of a shelf that lets nobody peek: each is begun once, in its turn, behind every gate.
+
+ghost use Rattle.std.specs.Prelude.{◌≡◌, ◌^◌, ◌≤◌, length};
+
+use crate::tests::devices::OneByteSink;
+use crate::tests::lettered_files::{LetteredFiles, number_in};
+use crate::tests::workers::Yielding;
+use crate::tests::{check_options, lines_tally, options, pattern, tally};
+use b3_board::{Gate, OpenGate};
+use b3_check::{MemorySink, RunFault, Tally, run_check, run_sum};
+use b3_hash::hash;
+use b3_lines::write_line;
+use std::alloc::Global;
+use std::process::Abort;
+use std::sync::Wait;
+use std::test::Fail;
+use std::thread::Threads;
+
+// Names in no order, of files of 1 to 3,000 bytes: one in eight is not there, and one in eight fails.
+fn names(alloc: Global, count: usize) -> Result<Vec<String>, Fail> {
+    let mut names = Vec::new(alloc);
+    let mut state = 1u64;
+    for _ in 0..count {
+        state = state
+            .wrapping_mul(6_364_136_223_846_793_005)
+            .wrapping_add(1_442_695_040_888_963_407);
+        let letter = match state >> 60 {
+            0 | 1 => "m",
+            2 | 3 => "f",
+            _ => "g",
+        };
+        let size = 1 + (state >> 32) % 3_000;
+        let mut name = String::from_str(alloc, letter)?;
+        name.push_str(size.to_string(alloc)?.as_str())?;
+        names.push(name)?;
+    }
+    Ok(names)
+}
+
+// These names, as they are to be begun.
+fn in_order(alloc: Global, names: &[String]) -> Result<Vec<u8>, Fail> {
+    let mut order = Vec::new(alloc);
+    for name in names {
+        order.extend_from_slice(name.as_bytes())?;
+        order.push(b'\n')?;
+    }
+    Ok(order)
+}
+
+/// What is said of names, one after the other.
+#[derive(Drop)]
+struct Expected {
+    out: Vec<u8>,
+    err: Vec<u8>,
+    ok: u64,
+    failed: u64,
+}
+
+fn said_of(alloc: Global, content: &[u8], names: &[String]) -> Result<Expected, Fail> {
+    let mut said = Expected {
+        out: Vec::new(alloc),
+        err: Vec::new(alloc),
+        ok: 0,
+        failed: 0,
+    };
+    for name in names {
+        let name = name.as_str();
+        if name.starts_with("g") {
+            let size = number_in(name).min(content.len());
+            let line = write_line(alloc, &hash(&content[..size]), name)?;
+            said.out.extend_from_slice(line.as_slice())?;
+            said.ok = said.ok.saturating_add(1);
+        } else {
+            said.err.extend_from_slice(b"b3sum: ")?;
+            said.err.extend_from_slice(name.as_bytes())?;
+            said.err.extend_from_slice(b": cannot read\n")?;
+            said.failed = said.failed.saturating_add(1);
+        }
+    }
+    Ok(said)
+}
+
+// The names are begun once each, in order; the texts are those of one name after the other.
+fn assert_thousand<R: Abort + Threads + Wait + Sync, G: Gate + Sync>(
+    rt: &R,
+    alloc: Global,
+    gate: &G,
+) -> Result<(), Fail> {
+    let content = pattern(alloc, 3_000)?;
+    let names = names(alloc, 1_000)?;
+    assert!(rt; names.len() == 1_000);
+    let said = said_of(alloc, content.as_slice(), &names)?;
+    let mut shelf = LetteredFiles::new(alloc, content.as_slice(), b"", 700);
+    let mut out = MemorySink::new(alloc);
+    let mut err = MemorySink::new(alloc);
+    let mut asked = options(6, 0);
+    asked.workers = 1;
+    let answer = run_sum(
+        rt, alloc, &mut shelf, &names, &mut out, &mut err, &asked, gate,
+    );
+    assert_eq!(rt; answer, Ok(tally(said.ok, said.failed, 0)));
+    assert_eq!(rt; out.bytes(), said.out.as_slice());
+    assert_eq!(rt; err.bytes(), said.err.as_slice());
+    assert_eq!(rt; shelf.begun(), in_order(alloc, &names)?.as_slice());
+    assert_eq!(rt; shelf.failures(), said.failed);
+    Ok(())
+}
+
+#[test]
+fn a_thousand_names_behind_a_gate_that_may_hold(rt: HostRuntime) -> Result<(), Fail> {
+    assert_thousand(&rt, rt.alloc(), &Yielding)
+}
+
+#[test]
+fn a_thousand_names_behind_an_open_gate(rt: HostRuntime) -> Result<(), Fail> {
+    assert_thousand(&rt, rt.alloc(), &OpenGate)
+}
+
+// Sums names of the same shelf, and answers what was begun, and what was written.
+fn sum<R: Abort + Threads + Wait + Sync, G: Gate + Sync>(
+    rt: &R,
+    alloc: Global,
+    names: &[&str],
+    most: usize,
+    gate: &G,
+) -> Result<(Result<Tally, RunFault>, Vec<u8>, Vec<u8>, u64), Fail> {
+    let content = pattern(alloc, 5_000)?;
+    let mut asked = Vec::new(alloc);
+    for name in names {
+        asked.push(String::from_str(alloc, name)?)?;
+    }
+    assert!(rt; asked.len() <= 10);
+    let mut shelf = LetteredFiles::new(alloc, content.as_slice(), b"", 1_000);
+    let mut out = OneByteSink::new(alloc, most);
+    let mut err = MemorySink::new(alloc);
+    let answer = run_sum(
+        rt,
+        alloc,
+        &mut shelf,
+        &asked,
+        &mut out,
+        &mut err,
+        &options(4, 0),
+        gate,
+    );
+    let begun = Vec::from_slice(alloc, shelf.begun())?;
+    let written = Vec::from_slice(alloc, out.bytes.as_slice())?;
+    Ok((answer, begun, written, shelf.failures()))
+}
+
+// The line of a file of so many bytes.
+fn line_of(alloc: Global, name: &str) -> Result<Vec<u8>, Fail> {
+    let content = pattern(alloc, 5_000)?;
+    let size = number_in(name).min(content.len());
+    let bytes = content.as_slice();
+    Ok(write_line(alloc, &hash(&bytes[..size]), name)?)
+}
+
+#[test]
+fn a_name_asked_twice_in_a_row_is_begun_twice(rt: HostRuntime) -> Result<(), Fail> {
+    let line = line_of(rt.alloc(), "g7")?;
+    let (answer, begun, written, _) = sum(&rt, rt.alloc(), &["g7", "g7"], 1_000, &Yielding)?;
+    assert_eq!(&rt; answer, Ok(tally(2, 0, 0)));
+    assert_eq!(&rt; begun.as_slice(), b"g7\ng7\n".as_slice());
+    let mut lines = Vec::from_slice(rt.alloc(), line.as_slice())?;
+    lines.extend_from_slice(line.as_slice())?;
+    assert_eq!(&rt; written.as_slice(), lines.as_slice());
+    Ok(())
+}
+
+// The write of the first line fails: no name behind it is begun.
+#[test]
+fn a_write_that_fails_ends_the_run(rt: HostRuntime) -> Result<(), Fail> {
+    let line = line_of(rt.alloc(), "g7")?;
+    for taken in 0..line.len() {
+        let (answer, begun, written, failures) = sum(
+            &rt,
+            rt.alloc(),
+            &["g7", "m1", "g1"],
+            taken,
+            &Yielding,
+        )?;
+        assert_eq!(&rt; answer, Err(RunFault::WriteFault));
+        assert_eq!(&rt; begun.as_slice(), b"g7\n".as_slice());
+        assert_eq!(&rt; written.as_slice(), &line.as_slice()[..taken]);
+        assert_eq!(&rt; failures, 0);
+    }
+    Ok(())
+}
+
+// The same behind an open gate.
+#[test]
+fn a_write_that_fails_behind_an_open_gate(rt: HostRuntime) -> Result<(), Fail> {
+    let (answer, begun, _, failures) = sum(&rt, rt.alloc(), &["g3000", "m1"], 0, &OpenGate)?;
+    assert_eq!(&rt; answer, Err(RunFault::WriteFault));
+    assert_eq!(&rt; begun.as_slice(), b"g3000\n".as_slice());
+    assert_eq!(&rt; failures, 0);
+    Ok(())
+}
+
+// Four reads, of which the last one finds the end, are too few for the second file. Its fault comes behind
+// the first line.
+#[test]
+fn a_fault_comes_behind_the_line(rt: HostRuntime) -> Result<(), Fail> {
+    let line = line_of(rt.alloc(), "g3000")?;
+    let (answer, begun, written, failures) = sum(
+        &rt,
+        rt.alloc(),
+        &["g3000", "g3001", "m1"],
+        1_000,
+        &Yielding,
+    )?;
+    assert_eq!(&rt; answer, Err(RunFault::EndlessInput));
+    assert_eq!(&rt; begun.as_slice(), b"g3000\ng3001\n".as_slice());
+    assert_eq!(&rt; written.as_slice(), line.as_slice());
+    assert_eq!(&rt; failures, 0);
+    Ok(())
+}
+
+// Lines with the digest of their name, and lines that are refused: what a check says of them.
+#[test]
+fn a_list_of_names(rt: HostRuntime) -> Result<(), Fail> {
+    let alloc = rt.alloc();
+    let content = pattern(alloc, 3_000)?;
+    let names = names(alloc, 200)?;
+    let mut list = Vec::new(alloc);
+    let mut verdicts = Vec::new(alloc);
+    for name in names.iter() {
+        let size = number_in(name.as_str()).min(content.len());
+        let bytes = content.as_slice();
+        let line = write_line(alloc, &hash(&bytes[..size]), name.as_str())?;
+        list.extend_from_slice(line.as_slice())?;
+        list.extend_from_slice(b"no line\n")?;
+        verdicts.extend_from_slice(name.as_bytes())?;
+        if name.as_str().starts_with("g") {
+            verdicts.extend_from_slice(b": OK\n")?;
+        } else {
+            verdicts.extend_from_slice(b": FAILED (cannot read)\n")?;
+        }
+    }
+    let said = said_of(alloc, content.as_slice(), &names)?;
+    let mut shelf = LetteredFiles::new(alloc, content.as_slice(), list.as_slice(), 700);
+    let mut out = MemorySink::new(alloc);
+    let mut err = MemorySink::new(alloc);
+    let lists = [String::from_str(alloc, "l")?];
+    let answer = run_check(
+        &rt,
+        alloc,
+        &mut shelf,
+        &lists,
+        &mut out,
+        &mut err,
+        &check_options(false, 20_000),
+        &Yielding,
+    );
+    assert_eq!(&rt; answer, Ok(lines_tally(said.ok, 0, said.failed, 200)));
+    assert_eq!(&rt; out.bytes(), verdicts.as_slice());
+    assert_eq!(&rt; shelf.failures(), said.failed);
+    Ok(())
+}
+
+// The same where each file may be peeked: what is written does not tell it, and only those are begun that cannot be.
+#[test]
+fn a_thousand_names_that_are_peeked(rt: HostRuntime) -> Result<(), Fail> {
+    let alloc = rt.alloc();
+    let content = pattern(alloc, 3_000)?;
+    let names = names(alloc, 1_000)?;
+    assert!(&rt; names.len() == 1_000);
+    let said = said_of(alloc, content.as_slice(), &names)?;
+    let mut shelf = LetteredFiles::open(alloc, content.as_slice(), b"");
+    let mut out = MemorySink::new(alloc);
+    let mut err = MemorySink::new(alloc);
+    let answer = run_sum(
+        &rt,
+        alloc,
+        &mut shelf,
+        &names,
+        &mut out,
+        &mut err,
+        &options(6, 0),
+        &OpenGate,
+    );
+    assert_eq!(&rt; answer, Ok(tally(said.ok, said.failed, 0)));
+    assert_eq!(&rt; out.bytes(), said.out.as_slice());
+    assert_eq!(&rt; err.bytes(), said.err.as_slice());
+    assert_eq!(&rt; shelf.failures(), said.failed);
+    Ok(())
+}

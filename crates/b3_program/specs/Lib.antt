@@ -1,0 +1,6 @@
+pub mod Files
+pub mod Usages
+pub mod Tasks
+pub mod Said
+pub mod Stops
+pub mod Programs

@@ -1,0 +1,55 @@
+-- What the words of a call ask for.
+use Rattle.std.specs.Prelude.{ℕ, min, ◌==◌, ◌^◌, if◌then◌else◌, Option, None, Some, unwrap_or}
+use Rattle.std.specs.Option.{option_map_or}
+use Rattle.b3_check.specs.declared.options.CheckOptions.{CheckOptions}
+use Rattle.b3_check.specs.declared.options.Form.{Form}
+use Rattle.b3_check.specs.declared.options.Form.TheVariants.{Named, Bare, Raw, Tagged}
+use Rattle.b3_check.specs.declared.options.KeyChoice.{KeyChoice}
+use Rattle.b3_check.specs.declared.options.KeyChoice.TheVariants.{Plain, Keyed, Derive}
+use Rattle.b3_check.specs.declared.options.SumOptions.{SumOptions}
+use Rattle.b3_program.specs.declared.task.Task.{Task}
+use Rattle.b3_program.specs.declared.task.Task.TheVariants.{Sum, Check}
+use Rattle.b3_program.specs.declared.words.Words.{Words}
+
+abbrev pub key_of : Words → KeyChoice
+key_of words = if words.keyed then Keyed else option_map_or Derive words.derive_key Plain
+
+-- raw output has no names in any case
+abbrev pub form_of : Words → Form
+form_of words =
+    if words.raw then Raw
+    else if words.no_names then Bare
+    else if words.tag then Tagged
+    else Named
+
+-- 4 where no number is given, and at 0; 64 above that
+abbrev pub workers_of : Option ℕ → ℕ
+workers_of None = 4
+workers_of (Some n) = if n == 0 then 4 else min n 64
+
+abbrev pub sum_options : Words → SumOptions
+sum_options words = record {
+  key = key_of words;
+  seek = unwrap_or words.seek 0;
+  length = unwrap_or words.length 32;
+  form = form_of words;
+  workers = workers_of words.num_threads;
+  turns = 2 ^ 40;
+  largest = 2 ^ 30;
+}
+
+abbrev pub check_options : Words → CheckOptions
+check_options words = record {
+  quiet = words.quiet;
+  ignore_missing = words.ignore_missing;
+  status = words.status;
+  strict = words.strict;
+  warn = words.warn;
+  workers = workers_of words.num_threads;
+  turns = 2 ^ 40;
+  largest = 2 ^ 30;
+}
+
+-- the task of words that are not refused
+abbrev pub task_for : Words → Task
+task_for words = if words.check then Check (check_options words) words.files else Sum (sum_options words) words.files

@@ -1,0 +1,239 @@
+ghost use Rattle.std.specs.Prelude.{◌≡◌, None, Some, IfErr, IfOk};
+ghost use Rattle.std.specs.List.{list_any};
+ghost use Rattle.std.specs.Option.{option_map};
+ghost use Rattle.b3_program.specs.Tasks.{check_options, form_of, key_of, sum_options, task_for, workers_of};
+ghost use Rattle.b3_program.specs.declared.task.Task.TheVariants.{Sum};
+ghost use Rattle.b3_program.specs.Usages.{excluded_by_check, excluded_by_tag, first_given, hashes_input, is_input, refusal_for, refusal_for_output, refusal_of, refusal_without_check, seeks_past_end};
+
+use crate::usage::Usage;
+use crate::words::Words;
+use b3_check::{CheckOptions, Form, KeyChoice, MAX_WORKERS, SumOptions};
+
+/// The number of output bytes where no word says another.
+const DEFAULT_LENGTH: u32 = 32;
+
+/// The first byte of the output that is written where no word says another.
+const DEFAULT_SEEK: u64 = 0;
+
+/// The number of threads where no word says another.
+const DEFAULT_THREADS: u32 = 4;
+
+/// How many reads a file may take.
+const TURNS: u64 = 1 << 40;
+
+/// How many bytes a list may have.
+const LARGEST: u64 = 1 << 30;
+
+/// What a call asks for, with the files as they were given.
+#[derive(Debug, Drop)]
+pub enum Task {
+    /// To write the digests of files.
+    Sum(SumOptions, Vec<String>),
+    /// To check the lists in files.
+    Check(CheckOptions, Vec<String>),
+}
+
+/// Decides what the words of a call ask for. It takes no memory.
+pub fn settle(words: Words) -> Result<Task, Usage>
+    ensures usage { IfErr result (λ usage. refusal_for words ≡ Some (refusal_of usage)) }
+    ensures task { IfOk result (λ task. (refusal_for words ≡ None) × (task ≡ task_for words)) }
+{
+    if let Some(usage) = refusal(&words) {
+        return Err(usage);
+    }
+    Ok(if words.check {
+        let options = check_options(&words);
+        Task::Check(options, words.files)
+    } else {
+        sum_task(words)
+    })
+}
+
+// The first refusal that holds of the words, in the order of `refusal_for`, which decides.
+fn refusal(words: &Words) -> Option<Usage>
+    ensures { option_map refusal_of result ≡ refusal_for words.now }
+{
+    if words.check {
+        if let Some(option) = excluded_by_check(words) {
+            return Some(Usage::CheckExcludes(option));
+        }
+    }
+    if words.keyed && words.derive_key.is_some() {
+        return Some(Usage::TwoKeys);
+    }
+    if words.quiet && !words.check {
+        return Some(Usage::QuietAlone);
+    }
+    if words.raw && words.files.len() > 1 {
+        return Some(Usage::RawOne);
+    }
+    if words.keyed && hashes_input(words) {
+        return Some(Usage::KeyNeedsFiles);
+    }
+    refusal_of_output(words)
+}
+
+// The first refusal that holds of what is to be written, and of words that only a check takes.
+fn refusal_of_output(words: &Words) -> Option<Usage>
+    ensures { option_map refusal_of result ≡ refusal_for_output words.now }
+{
+    if words.tag {
+        if let Some(option) = excluded_by_tag(words) {
+            return Some(Usage::TagExcludes(option));
+        }
+    }
+    if seeks_past_end(words) {
+        return Some(Usage::SeekPastEnd);
+    }
+    if words.check {
+        return None;
+    }
+    refusal_without_check(words)
+}
+
+// The first refusal that holds of words for a check, where nothing is checked.
+fn refusal_without_check(words: &Words) -> Option<Usage>
+    ensures { option_map refusal_of result ≡ refusal_without_check words.now }
+{
+    if words.ignore_missing {
+        Some(Usage::IgnoreMissingAlone)
+    } else if words.status {
+        Some(Usage::StatusAlone)
+    } else if words.strict {
+        Some(Usage::StrictAlone)
+    } else if words.warn {
+        Some(Usage::WarnAlone)
+    } else {
+        None
+    }
+}
+
+// The first option that is given and goes with no check.
+fn excluded_by_check(words: &Words) -> Option<&'static str>
+    ensures { option_map (λ option. option.now) result ≡ first_given (excluded_by_check words.now) }
+{
+    if words.keyed {
+        Some("--keyed")
+    } else if words.derive_key.is_some() {
+        Some("--derive-key")
+    } else if words.length.is_some() {
+        Some("--length")
+    } else if words.seek.is_some() {
+        Some("--seek")
+    } else if words.raw {
+        Some("--raw")
+    } else if words.no_names {
+        Some("--no-names")
+    } else if words.tag {
+        Some("--tag")
+    } else {
+        None
+    }
+}
+
+// The first option that is given and goes with no tagged lines.
+fn excluded_by_tag(words: &Words) -> Option<&'static str>
+    ensures { option_map (λ option. option.now) result ≡ first_given (excluded_by_tag words.now) }
+{
+    if words.raw {
+        Some("--raw")
+    } else if words.no_names {
+        Some("--no-names")
+    } else {
+        None
+    }
+}
+
+// Whether bytes are asked for that lie behind the end of the output.
+fn seeks_past_end(words: &Words) -> bool
+    ensures { result ≡ seeks_past_end words.now }
+{
+    let length = words.length.unwrap_or(DEFAULT_LENGTH);
+    words
+        .seek
+        .unwrap_or(DEFAULT_SEEK)
+        .checked_add(u64::from(length))
+        .is_none()
+}
+
+// Whether standard input is to be hashed.
+fn hashes_input(words: &Words) -> bool
+    ensures { result ≡ hashes_input words.now }
+{
+    words.files.is_empty() || name_input(words.files.as_slice())
+}
+
+// Whether standard input is one of the files.
+fn name_input(files: &[String]) -> bool
+    ensures { result ≡ list_any is_input files.now }
+{
+    files.iter().any(|file| file.as_str() == "-")
+}
+
+fn check_options(words: &Words) -> CheckOptions
+    ensures { result ≡ check_options words.now }
+{
+    CheckOptions {
+        quiet: words.quiet,
+        ignore_missing: words.ignore_missing,
+        status: words.status,
+        strict: words.strict,
+        warn: words.warn,
+        workers: workers(words.num_threads),
+        turns: TURNS,
+        largest: LARGEST,
+    }
+}
+
+fn sum_task(words: Words) -> Task
+    ensures { result ≡ Sum (sum_options words) words.files }
+{
+    let form = form(&words);
+    let workers = workers(words.num_threads);
+    let Words {
+        keyed,
+        derive_key,
+        length,
+        seek,
+        files,
+        ..
+    } = words;
+    let key = if keyed {
+        KeyChoice::Keyed
+    } else {
+        derive_key.map_or(KeyChoice::Plain, KeyChoice::Derive)
+    };
+    let options = SumOptions {
+        key,
+        seek: seek.unwrap_or(DEFAULT_SEEK),
+        length: length.unwrap_or(DEFAULT_LENGTH),
+        form,
+        workers,
+        turns: TURNS,
+        largest: LARGEST,
+    };
+    Task::Sum(options, files)
+}
+
+fn form(words: &Words) -> Form
+    ensures { result ≡ form_of words.now }
+{
+    if words.raw {
+        Form::Raw
+    } else if words.no_names {
+        Form::Bare
+    } else if words.tag {
+        Form::Tagged
+    } else {
+        Form::Named
+    }
+}
+
+fn workers(threads: Option<u16>) -> u32
+    ensures { result ≡ workers_of threads }
+{
+    match threads {
+        None | Some(0) => DEFAULT_THREADS,
+        Some(threads) => u32::from(threads).min(MAX_WORKERS),
+    }
+}

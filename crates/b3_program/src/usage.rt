@@ -1,0 +1,54 @@
+ghost use Rattle.std.specs.Prelude.{◌≡◌, ◌++◌, [], string_bytes};
+
+/// Why the words of a call ask for nothing that can be done.
+#[derive(Clone, Copy, Debug, PartialEq, Eq)]
+pub enum Usage {
+    /// An option that goes with no check.
+    CheckExcludes(&'static str),
+    /// Two kinds of key.
+    TwoKeys,
+    /// `--quiet` where nothing is checked.
+    QuietAlone,
+    /// Raw output of more than one file.
+    RawOne,
+    /// A key where standard input is to be hashed too.
+    KeyNeedsFiles,
+    /// An option that goes with no tagged lines.
+    TagExcludes(&'static str),
+    /// Bytes behind the end of the output.
+    SeekPastEnd,
+    /// `--ignore-missing` where nothing is checked.
+    IgnoreMissingAlone,
+    /// `--status` where nothing is checked.
+    StatusAlone,
+    /// `--strict` where nothing is checked.
+    StrictAlone,
+    /// `--warn` where nothing is checked.
+    WarnAlone,
+}
+
+impl Usage {
+    ghost use Rattle.b3_program.specs.Usages.{refusal_of, refusal_text};
+
+    /// The text for the user, without a line feed: its beginning, and the option that it ends with.
+    pub fn text(&self) -> (&'static str, &'static str)
+        ensures { result.0.now ++ result.1.now ≡ refusal_text (refusal_of self.now) }
+    {
+        match *self {
+            Usage::CheckExcludes(option) => ("b3sum: --check cannot be used with ", option),
+            Usage::TwoKeys => ("b3sum: --keyed cannot be used with --derive-key", ""),
+            Usage::QuietAlone => ("b3sum: --quiet needs --check", ""),
+            Usage::RawOne => ("b3sum: --raw takes one input", ""),
+            Usage::KeyNeedsFiles => ("b3sum: --keyed needs files", ""),
+            Usage::TagExcludes(option) => ("b3sum: --tag cannot be used with ", option),
+            Usage::SeekPastEnd => {
+                let text = "b3sum: --seek and --length pass the end of the output";
+                (text, "")
+            }
+            Usage::IgnoreMissingAlone => ("b3sum: --ignore-missing needs --check", ""),
+            Usage::StatusAlone => ("b3sum: --status needs --check", ""),
+            Usage::StrictAlone => ("b3sum: --strict needs --check", ""),
+            Usage::WarnAlone => ("b3sum: --warn needs --check", ""),
+        }
+    }
+}

@@ -1,0 +1,39 @@
+ghost use Rattle.std.specs.Prelude.{◌≤◌, ◌^◌, vec_len};
+ghost use Rattle.std.specs.Option.{ForSome};
+
+/// What the words of a call say.
+#[derive(Debug, Drop)]
+pub struct Words {
+    /// Lists are checked.
+    pub check: bool,
+    /// The hash is keyed by standard input.
+    pub keyed: bool,
+    /// The context of a derived key.
+    pub derive_key: Option<String>,
+    /// How many bytes of the output are written.
+    pub length: Option<u32>,
+    /// The first byte of the output that is written.
+    pub seek: Option<u64>,
+    /// The bytes of the output are written, and no digits.
+    pub raw: bool,
+    /// Digests are written without names.
+    pub no_names: bool,
+    /// Digests are written in tagged lines.
+    pub tag: bool,
+    /// Nothing is said of files that are OK.
+    pub quiet: bool,
+    /// Missing files are passed over.
+    pub ignore_missing: bool,
+    /// Nothing is written by a check.
+    pub status: bool,
+    /// A list without a check line fails.
+    pub strict: bool,
+    /// The list of each malformed line is named.
+    pub warn: bool,
+    /// How many threads hash.
+    pub num_threads: Option<u16>,
+    /// The files, as they were given.
+    pub files: Vec<String>,
+    ghost length_in_range: { ForSome length (λ n. n ≤ 1048576) },
+    ghost files_in_range: { vec_len files ≤ 2 ^ 30 },
+}

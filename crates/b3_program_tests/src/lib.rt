@@ -1,0 +1,5 @@
+//! Tests of `b3_program`, over its public calls: the shelf of real files, and the sinks over writers.
+#![tactic(auto)]
+
+#[cfg(test)]
+mod tests;
