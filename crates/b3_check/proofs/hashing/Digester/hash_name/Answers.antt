@@ -1,4 +1,4 @@
-use Rattle.std.proofs.Common.{◌∙◌, ap, subst, sym}
+use Rattle.std.proofs.Common.{◌∙◌, ap, rules, subst, sym}
 use Rattle.b3_core.specs.Output.{output_bytes}
 use Rattle.b3_hash.specs.Readers.{Reader}
 use Rattle.b3_check.specs.Contents.{HasContent}
