@@ -1,5 +1,5 @@
 -- What is known of items: taken one by one, and noted one by one.
-use Rattle.std.proofs.Common.{◌≡◌, ℕ, Bool, ◌<◌, ◌≤◌, suc, zero, List, [], ◌∷◌, ◌++◌, length, map, Option, Some, None, refl, sym, ◌∙◌, ap, append_assoc, subst, inl, inr, arith}
+use Rattle.std.proofs.Common.{◌≡◌, ℕ, Bool, ◌<◌, ◌≤◌, suc, zero, List, [], ◌∷◌, ◌++◌, length, map, Option, Some, None, Ok, refl, sym, ◌∙◌, ap, append_assoc, subst, inl, inr, arith}
 use Rattle.std.proofs.Math.ListN.{set}
 use Rattle.std.specs.Prelude.{slice_index_or, All, IfSome}
 use Rattle.std.proofs.lemmas.List.{get_or-set_same, get_or-set_other, get_or_default, length-set, map-append}
@@ -16,7 +16,7 @@ use Rattle.b3_check.specs.declared.hashing.Output.{Output}
 use Rattle.b3_check.specs.Contents.{Contents, HasContent}
 use Rattle.b3_check.specs.Reading.{Digested}
 use Rattle.b3_check.specs.Runs.{Scene}
-use Rattle.b3_check.specs.Scripts.{AgreesWith}
+use Rattle.b3_check.specs.Scripts.{AgreesWith, answer_of}
 use Rattle.b3_check.specs.Scripts.Kind.{Hashed}
 use Rattle.b3_core.specs.Output.{output_bytes}
 use Rattle.b3_check.proofs.RunLemmas.{went_nowhere}
@@ -76,15 +76,15 @@ if_some_weaker {T} {P} {Q} (Some x) weaker p = weaker x p
 -- ---- a name of which the node is known is answered
 
 agrees_known : (told : Option Contents) (sure : Bool) (name content : List ℕ) → HasContent told name content
-    → AgreesWith told sure Hashed name (Some content)
+    → AgreesWith told sure Hashed name (Ok content)
 agrees_known None sure name content has = tt
-agrees_known (Some contents) sure name content has = inl (sym has)
+agrees_known (Some contents) sure name content has = inl (sym (ap (answer_of Hashed) has))
 
 pub digested_known : {name : List ℕ} {node : Node} {digest : List ℕ} (output : Output) (a : Scene)
     → IsNodeOf a.told output.mode name node → digest ≡ output_bytes node output.seek output.length
-    → Digested output name (Some digest) a a
+    → Digested output name (Ok digest) a a
 digested_known {name} {node} {digest} output a known is = record {
-  answer = Some known.content;
+  answer = Ok known.content;
   answered = record {
     agrees = agrees_known a.told a.sure name known.content known.has;
     went = record {
@@ -93,5 +93,5 @@ digested_known {name} {node} {digest} output a known is = record {
       err = (went_nowhere a).err;
     };
   };
-  is = ap Some (is ∙ ap (λ (n : Node). output_bytes n output.seek output.length) known.is);
+  is = ap Ok (is ∙ ap (λ (n : Node). output_bytes n output.seek output.length) known.is);
 }

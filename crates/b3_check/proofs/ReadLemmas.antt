@@ -1,5 +1,5 @@
 -- What is read of a file: so far, to its end, and of a name.
-use Rattle.std.proofs.Common.{◌≡◌, ◌⊎◌, ℕ, ◌+◌, ◌<◌, ◌≤◌, Bool, true, false, IsSome, List, [], ◌++◌, length, take, Option, None, Some, refl, sym, ◌∙◌, ap, subst, inl, inr, append_assoc, length-append, arith}
+use Rattle.std.proofs.Common.{◌≡◌, ◌⊎◌, ℕ, ◌+◌, ◌<◌, ◌≤◌, Bool, false, IsSome, List, [], ◌++◌, length, take, Option, None, Some, Ok, Err, refl, sym, ◌∙◌, ap, subst, inl, inr, append_assoc, length-append, arith}
 use Rattle.std.specs.Prelude.{IsSomeAnd}
 use Rattle.std.proofs.Math.Seq.{take-append-add}
 use Rattle.std.proofs.lemmas.List.{append-nil, length-take-le, take-append-le, take_all}
@@ -10,7 +10,9 @@ use Rattle.b3_check.specs.declared.fault.RunFault.{RunFault}
 use Rattle.b3_check.specs.declared.fault.RunFault.TheVariants.{ReadFault, WriteFault, Memory, BadKey, EndlessInput}
 use Rattle.b3_check.specs.declared.hashing.Output.{Output}
 use Rattle.b3_check.specs.declared.options.Limits.{Limits}
-use Rattle.b3_check.specs.Contents.{Contents, ContentHas, Gives, HasContent, IsMissing}
+use Rattle.b3_check.specs.declared.shelf.NoContent.{NoContent}
+use Rattle.b3_check.specs.declared.shelf.NoContent.TheVariants.{Missing, CannotRead}
+use Rattle.b3_check.specs.Contents.{Contents, ContentHas, Gives, HasContent, LacksContent}
 use Rattle.b3_check.specs.Reading.{IsDigestOf, IsFaultOfRest, IsOutputOf, IsReadingFault, only_rest}
 use Rattle.b3_check.specs.Scripts.{AgreesWith, Kind, answer_of}
 use Rattle.b3_check.specs.Scripts.Kind.{Hashed, Listed, Key}
@@ -91,30 +93,29 @@ rest_where (Some contents) left P holds = holds refl
 -- what was read to the end is the content of the name
 pub agrees_whole : (told : Option Contents) (sure : Bool) (kind : Kind) (name left : List ℕ) (answer : List ℕ)
     → HasContent told name left
-    → (IsSome told → answer_of kind (Some left) ≡ Some answer) → AgreesWith told sure kind name (Some answer)
+    → (IsSome told → answer_of kind (Some left) ≡ Ok answer) → AgreesWith told sure kind name (Ok answer)
 agrees_whole None sure kind name left answer has whole = tt
 agrees_whole (Some contents) sure kind name left answer has whole =
     inl (sym (whole refl) ∙ ap (answer_of kind) (sym has))
 
 -- a read failed
 pub agrees_failed : (told : Option Contents) (sure : Bool) (kind : Kind) (name : List ℕ) → sure ≡ false
-    → AgreesWith told sure kind name None
+    → AgreesWith told sure kind name (Err CannotRead)
 agrees_failed None sure kind name failed = tt
 agrees_failed (Some contents) sure kind name failed = inr (refl, failed)
 
-answer_of-none : (kind : Kind) → answer_of kind None ≡ None
+answer_of-none : (kind : Kind) → answer_of kind None ≡ Err Missing
 answer_of-none Hashed = refl
 answer_of-none Listed = refl
 answer_of-none Key = refl
 
--- a name is not there, or the shelf may fail elsewhere
-pub agrees_missing : (told : Option Contents) (sure : Bool) (kind : Kind) (name : List ℕ)
-    → (sure ≡ true → IsMissing told name)
-    → AgreesWith told sure kind name None
-agrees_missing None sure kind name missing = tt
-agrees_missing (Some contents) true kind name missing =
-    inl (sym (ap (answer_of kind) (missing refl) ∙ answer_of-none kind))
-agrees_missing (Some contents) false kind name missing = inr (refl, refl)
+-- a name is not there, or the shelf may fail elsewhere too
+pub agrees_lacking : (told : Option Contents) (sure : Bool) (kind : Kind) (name : List ℕ) (why : NoContent)
+    → LacksContent told sure name why → AgreesWith told sure kind name (Err why)
+agrees_lacking None sure kind name why lacks = tt
+agrees_lacking (Some contents) sure kind name Missing lacks =
+    inl (sym (ap (answer_of kind) lacks ∙ answer_of-none kind))
+agrees_lacking (Some contents) sure kind name CannotRead lacks = inr (refl, lacks)
 
 -- the digest of the output of what was left
 pub digest_whole : (told : Option Contents) (sure : Bool) (name left : List ℕ) (output : Output) (given : Reader)
@@ -122,17 +123,17 @@ pub digest_whole : (told : Option Contents) (sure : Bool) (name left : List ℕ)
     → HasContent told name left → IsOutputOf told left output.mode given
     → ((content : List ℕ) → given ≡ record { node = top output.mode 0 content; place = 0 }
     → digest ≡ blake3 output.mode content output.seek output.length)
-    → IsDigestOf told sure name output (Some digest)
+    → IsDigestOf told sure name output (Ok digest)
 digest_whole told sure name left output given digest has is_output hashed = record {
-  answer = Some is_output.content;
-  agrees = agrees_whole told sure Hashed name left is_output.content has (λ is. ap Some (is_output.whole is));
-  is = ap Some (hashed is_output.content is_output.output);
+  answer = Ok is_output.content;
+  agrees = agrees_whole told sure Hashed name left is_output.content has (λ is. ap Ok (is_output.whole is));
+  is = ap Ok (hashed is_output.content is_output.output);
 }
 
-pub digest_none : (told : Option Contents) (sure : Bool) (name : List ℕ) (output : Output)
-    → AgreesWith told sure Hashed name None
-    → IsDigestOf told sure name output None
-digest_none told sure name output agrees = record { answer = None; agrees = agrees; is = refl }
+pub digest_none : (told : Option Contents) (sure : Bool) (name : List ℕ) (output : Output) (why : NoContent)
+    → AgreesWith told sure Hashed name (Err why)
+    → IsDigestOf told sure name output (Err why)
+digest_none told sure name output why agrees = record { answer = Err why; agrees = agrees; is = refl }
 
 -- ---- a read behind the first bytes of a room
 

@@ -414,11 +414,11 @@ stopped_bad_key a = record { answers = []; agree = tt; broke = broke_at_once a n
 
 -- what follows a key of 32 bytes, and any other
 keyed_script-mode : {mode : Mode} {a b : Scene} (next : Mode → Script) (found : FoundKey mode a b)
-    → keyed_script next (Some found.key) ≡ next mode
+    → keyed_script next (Ok found.key) ≡ next mode
 keyed_script-mode next found =
     cond-true (length found.key == 32) _ _ (eq-eqb (length found.key) 32 found.len) ∙ ap next (sym found.is)
 
-keyed_script-bad : (next : Mode → Script) (key : List ℕ) → length key ≢ 32 → keyed_script next (Some key) ≡ Fail BadKey
+keyed_script-bad : (next : Mode → Script) (key : List ℕ) → length key ≢ 32 → keyed_script next (Ok key) ≡ Fail BadKey
 keyed_script-bad next key len = cond-false (length key == 32) _ _ (ne_eqb (length key) 32 len)
 
 pub runs_in_mode : (limits : Limits) (key : KeyChoice) (mode : Mode) (next : Mode → Script) (a b c : Scene)
@@ -431,10 +431,10 @@ runs_in_mode limits (Derive context) mode next a b c result found run =
     subst (λ (m : Mode). Runs limits (next m) a c result) found.0
     (subst (λ (s : Scene). Runs limits (next mode) s c result) found.1 run)
 runs_in_mode limits Keyed mode next a b c (Ok tally) found run =
-    ran_answered (keyed_script next) (Some found.key) found.answered
+    ran_answered (keyed_script next) (Ok found.key) found.answered
     (subst (λ (s : Script). Ran s b c tally) (sym (keyed_script-mode next found)) run)
 runs_in_mode limits Keyed mode next a b c (Err fault) found run =
-    stopped_answered (keyed_script next) (Some found.key) found.answered
+    stopped_answered (keyed_script next) (Ok found.key) found.answered
     (subst (λ (s : Script). Stopped limits s b c fault) (sym (keyed_script-mode next found)) run)
 
 -- there is no mode
@@ -444,9 +444,9 @@ stopped_in_mode limits Plain next a b fault found = absurd found
 stopped_in_mode limits (Derive context) next a b fault found = absurd found
 stopped_in_mode limits Keyed next a b fault found = elim found [
   | inl missing ↦ subst (λ (f : RunFault). Stopped limits (with_mode Keyed next) a b f) (sym missing.0)
-      (stopped_answered (keyed_script next) None missing.1 (stopped_unread_key b))
+      (stopped_answered (keyed_script next) (Err missing.1.why) missing.1.answered (stopped_unread_key b))
   | inr bad ↦ subst (λ (f : RunFault). Stopped limits (with_mode Keyed next) a b f) (sym bad.0)
-      (stopped_answered (keyed_script next) (Some bad.1.key) bad.1.answered
+      (stopped_answered (keyed_script next) (Ok bad.1.key) bad.1.answered
       (subst (λ (s : Script). Stopped limits s b b BadKey) (sym (keyed_script-bad next bad.1.key bad.1.len))
       (stopped_bad_key b)))
 ]
@@ -460,7 +460,7 @@ mode_count (Derive context) a b (Ok mode) found = omega (arith, ap (λ (s : Scen
 mode_count (Derive context) a b (Err fault) found = absurd found
 mode_count Keyed a b (Ok mode) found = omega (arith, found.answered.went.heard.failures)
 mode_count Keyed a b (Err fault) found = elim found [
-  | inl missing ↦ omega (arith, missing.1.went.heard.failures)
+  | inl missing ↦ omega (arith, missing.1.answered.went.heard.failures)
   | inr bad ↦ omega (arith, bad.1.answered.went.heard.failures)
 ]
 

@@ -1,5 +1,5 @@
 -- Scripts one after the other, and the reports of their answers.
-use Rattle.std.proofs.Common.{◌≡◌, ℕ, ◌+◌, Bool, List, [], ◌∷◌, ◌++◌, Option, None, Some, refl, sym, ◌∙◌, ap, subst, append_assoc, add_assoc, add-zero, zero-add}
+use Rattle.std.proofs.Common.{◌≡◌, ℕ, ◌+◌, Bool, List, [], ◌∷◌, ◌++◌, Option, Ok, Err, refl, sym, ◌∙◌, ap, subst, append_assoc, add_assoc, add-zero, zero-add}
 use Rattle.std.proofs.Math.Path.{fun_ext}
 use Rattle.std.proofs.lemmas.List.{append-nil}
 use Rattle.b3_check.specs.Contents.{Contents}
@@ -71,8 +71,8 @@ none-tally_sum a = simp (zero-add)
 -- the answers that cannot be read, in two parts
 pub unread-append : (xs ys : List Answer) → unread (xs ++ ys) ≡ unread xs + unread ys
 unread-append [] ys = sym (zero-add (unread ys))
-unread-append (None ∷ xs) ys = ap (λ n. 1 + n) (unread-append xs ys) ∙ sym (add_assoc 1 (unread xs) (unread ys))
-unread-append (Some _ ∷ xs) ys = unread-append xs ys
+unread-append (Err why ∷ xs) ys = ap (λ n. 1 + n) (unread-append xs ys) ∙ sym (add_assoc 1 (unread xs) (unread ys))
+unread-append (Ok _ ∷ xs) ys = unread-append xs ys
 
 -- ---- all answers to one script, and then answers to the next
 

@@ -1,6 +1,5 @@
 -- Tasks: their scripts, runs of the tasks so far, and those of one.
-use Rattle.std.proofs.Common.{◌≡◌, ◌⊎◌, ℕ, ◌+◌, ◌≤◌, ◌&&◌, Bool, true, false, if◌then◌else◌, List, [], ◌∷◌, ◌++◌, length, map, Option, Some, None, codes, refl, sym, ◌∙◌, ap, subst, append_assoc, length-append, arith}
-use Rattle.std.specs.String.{string_bytes}
+use Rattle.std.proofs.Common.{◌≡◌, ◌⊎◌, ℕ, ◌+◌, ◌≤◌, ◌&&◌, true, false, if◌then◌else◌, List, [], ◌∷◌, ◌++◌, length, map, Ok, Err, codes, refl, sym, ◌∙◌, ap, subst, append_assoc, length-append, arith}
 use Rattle.std.proofs.lemmas.List.{append-nil, map-append}
 use Rattle.b3_check.specs.declared.tally.Tally.{Tally}
 use Rattle.b3_check.specs.declared.fault.RunFault.{RunFault}
@@ -9,18 +8,19 @@ use Rattle.b3_check.specs.declared.hashing.Output.{Output}
 use Rattle.b3_check.specs.declared.items.Subject.{Subject}
 use Rattle.b3_check.specs.declared.items.Subject.TheVariants.{Line, Name}
 use Rattle.b3_check.specs.declared.judging.Verdict.{Verdict}
-use Rattle.b3_check.specs.declared.judging.Verdict.TheVariants.{Good, Differs, Unreadable}
-use Rattle.b3_check.specs.Checks.{verdict_on, verdict_report}
+use Rattle.b3_check.specs.declared.judging.Verdict.TheVariants.{Good, Differs, Missing, Unreadable}
+use Rattle.b3_check.specs.Checks.{verdict_on, verdict_tally}
+use Rattle.b3_check.specs.declared.options.CheckOptions.{CheckOptions}
 use Rattle.b3_check.specs.declared.options.Form.{Form}
 use Rattle.b3_check.specs.declared.options.Limits.{Limits}
 use Rattle.b3_check.specs.declared.said.Said.{Said}
 use Rattle.b3_check.specs.Digests.{digest_of, digest_script}
 use Rattle.b3_check.specs.Reading.{Digested}
 use Rattle.b3_check.specs.Runs.{Broke, HasRoom, Ran, Scene, Stopped, Went}
-use Rattle.b3_check.specs.Scripts.{Report, followed_by, in_turn}
+use Rattle.b3_check.specs.Scripts.{Given, Report, followed_by, in_turn}
 use Rattle.b3_check.specs.Scripts.Script.{Done, Say}
 use Rattle.b3_check.specs.Sums.{failed_report, is_bad_name, name_report, name_script, names_script, shows_name}
-use Rattle.b3_check.specs.Tallies.{counted, no_tally, tally_sum}
+use Rattle.b3_check.specs.Tallies.{counted, no_tally, one_missing, one_unreadable, tally_sum}
 use Rattle.b3_check.specs.Tasks.{Gave, Task, name_task, report_of, subject_report, task_script, tasks_script}
 use Rattle.b3_check.specs.Tasks.Task.{Tell, Find}
 use Rattle.b3_check.proofs.RunLemmas.{ran_answered, ran_done, ran_said, ran_then, ran_then_stopped, stopped_answered, stopped_at_once, stopped_early, stopped_said}
@@ -30,7 +30,7 @@ use Rattle.b3_check.proofs.ScriptLemmas.{in_turn-append, in_turn-more}
 
 -- a name is answered, and what its digest gives is said
 pub ran_find : {a b c : Scene} {m : Tally} {output : Output} {name : List ℕ} {said : Said}
-    (says : Option (List ℕ) → Report)
+    (says : Given (List ℕ) → Report)
     → Gave output name says a b said → Went b c [] (report_of said) → m ≡ said.tally
     → Ran (digest_script output name says) a c m
 ran_find {a} {b} {c} {m} {output} {name} {said} says gave went is =
@@ -40,7 +40,7 @@ ran_find {a} {b} {c} {m} {output} {name} {said} says gave went is =
 
 -- a sink fails in the saying
 pub stopped_find : {limits : Limits} {a b c : Scene} {fault : RunFault} {output : Output} {name : List ℕ} {said : Said}
-    (says : Option (List ℕ) → Report)
+    (says : Given (List ℕ) → Report)
     → Gave output name says a b said → Broke b c [] (report_of said) fault → (fault ≡ WriteFault) ⊎ (fault ≡ Memory)
     → Stopped limits (digest_script output name says) a c fault
 stopped_find {limits} {a} {b} {c} {fault} {output} {name} {said} says gave broke known =
@@ -50,30 +50,31 @@ stopped_find {limits} {a} {b} {c} {fault} {output} {name} {said} says gave broke
 
 -- there is no memory for what is to be said
 pub stopped_unsaid : {limits : Limits} {a b : Scene} {fault : RunFault} {output : Output} {name : List ℕ}
-    {digest : Option (List ℕ)}
-    (says : Option (List ℕ) → Report) → Digested output name digest a b → fault ≡ Memory
+    {digest : Given (List ℕ)}
+    (says : Given (List ℕ) → Report) → Digested output name digest a b → fault ≡ Memory
     → Stopped limits (digest_script output name says) a b fault
 stopped_unsaid {limits} {a} {b} {fault} {output} {name} {digest} says digested refused =
     stopped_answered (λ answer. Say (says (digest_of output answer)) Done) digested.answer digested.answered
     (stopped_at_once _ b fault refused)
 
 -- what is said of a name counts one
-pub counted-name_report : (form : Form) (name : List ℕ) (digest : Option (List ℕ))
+pub counted-name_report : (form : Form) (name : List ℕ) (digest : Given (List ℕ))
     → counted (name_report form name digest).tally ≡ 1
-counted-name_report form name None = refl
-counted-name_report form name (Some digest) = refl
+counted-name_report form name (Err why) = refl
+counted-name_report form name (Ok digest) = refl
 
-counted-verdict_report : (quiet : Bool) (shown : List ℕ) (verdict : Verdict)
-    → counted (verdict_report quiet shown verdict).tally ≡ 1
-counted-verdict_report quiet shown Good = refl
-counted-verdict_report quiet shown Differs = refl
-counted-verdict_report quiet shown Unreadable = refl
+counted-verdict_tally : (options : CheckOptions) (verdict : Verdict) → counted (verdict_tally options verdict) ≡ 1
+counted-verdict_tally options Good = refl
+counted-verdict_tally options Differs = refl
+counted-verdict_tally options Unreadable = refl
+counted-verdict_tally options Missing =
+    elim options.ignore_missing as (λ b. counted (if b then one_missing else one_unreadable) ≡ 1)
+    [ true ↦ refl | false ↦ refl ]
 
-pub counted-subject_report : (subject : Subject) (digest : Option (List ℕ))
+pub counted-subject_report : (subject : Subject) (digest : Given (List ℕ))
     → counted (subject_report subject digest).tally ≡ 1
 counted-subject_report (Name form name) digest = counted-name_report form name.now digest
-counted-subject_report (Line quiet line) digest = counted-verdict_report quiet (string_bytes line.shown)
-    (verdict_on line.digest digest)
+counted-subject_report (Line options line) digest = counted-verdict_tally options (verdict_on line.digest digest)
 
 -- ---- tasks so far
 

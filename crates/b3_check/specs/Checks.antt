@@ -1,5 +1,6 @@
 -- The script of a run that checks lists of check lines.
-use Rattle.std.specs.Prelude.{ℕ, ◌+◌, ◌==◌, Bool, if◌then◌else◌, List, [], ◌∷◌, ◌++◌, Option, None, Some, Result, Ok, Err, bytes_eq, codes, decimal, map}
+use Rattle.std.specs.Prelude.{ℕ, ◌+◌, ◌==◌, ◌&&◌, ◌||◌, Bool, if◌then◌else◌, List, [], ◌∷◌, ◌++◌, Option, None, Some, Result, Ok, Err, bytes_eq, codes, decimal, map}
+use Rattle.std.specs.Option.{option_map_or}
 use Rattle.hex.specs.Hex.{decode_of}
 use Rattle.b3_lines.specs.Lines.{lines_of}
 use Rattle.b3_lines.specs.Parts.{shown_of}
@@ -7,13 +8,13 @@ use Rattle.b3_lines.specs.Reading.{after_mark, first_refusal, has_mark, layout_o
 use Rattle.b3_lines.specs.Reasons.{reason_of}
 use Rattle.b3_lines.specs.declared.fault.LineFault.{LineFault}
 use Rattle.b3_check.specs.declared.judging.Answer.{Answer as DigestAnswer}
-use Rattle.b3_check.specs.declared.judging.Answer.TheVariants.{CannotRead, Digest}
 use Rattle.b3_check.specs.declared.judging.Verdict.{Verdict}
-use Rattle.b3_check.specs.declared.judging.Verdict.TheVariants.{Good, Differs, Unreadable}
+use Rattle.b3_check.specs.declared.judging.Verdict.TheVariants.{Good, Differs, Unreadable, Missing as IsAway}
 use Rattle.b3_check.specs.declared.options.CheckOptions.{CheckOptions}
+use Rattle.b3_check.specs.declared.shelf.NoContent.TheVariants.{Missing, CannotRead}
 use Rattle.b3_check.specs.declared.tally.Tally.{Tally}
-use Rattle.b3_check.specs.Tallies.{no_tally, one_ok, one_failed, one_list}
-use Rattle.b3_check.specs.Scripts.{Answer, Script, Report, in_turn, then_counted}
+use Rattle.b3_check.specs.Tallies.{failed_of, no_tally, one_differing, one_list, one_malformed, one_missing, one_ok, one_unreadable, verified_of, well_formed_of}
+use Rattle.b3_check.specs.Scripts.{Answer, Given, Script, Report, in_turn, then_counted}
 use Rattle.b3_check.specs.Scripts.Kind.{Listed}
 use Rattle.b3_check.specs.Scripts.Script.{Done, Say, Ask}
 use Rattle.b3_check.specs.Digests.{digest_script, line_output}
@@ -43,63 +44,122 @@ entry_of line =
 
 -- what an answer says of the digest of a line
 abbrev pub verdict_of : List ℕ → DigestAnswer → Verdict
-verdict_of digest CannotRead = Unreadable
-verdict_of digest (Digest found) = if bytes_eq found digest then Good else Differs
+verdict_of digest DigestAnswer.Missing = IsAway
+verdict_of digest DigestAnswer.CannotRead = Unreadable
+verdict_of digest (DigestAnswer.Digest found) = if bytes_eq found digest then Good else Differs
 
--- the answer by the digest that was found, or nothing: the name cannot be read
-abbrev pub answer_as : Option (List ℕ) → DigestAnswer
-answer_as None = CannotRead
-answer_as (Some found) = Digest found
+-- the answer by the digest that was found, or by why there is none
+abbrev pub answer_as : Given (List ℕ) → DigestAnswer
+answer_as (Err Missing) = DigestAnswer.Missing
+answer_as (Err CannotRead) = DigestAnswer.CannotRead
+answer_as (Ok found) = DigestAnswer.Digest found
 
-abbrev pub verdict_on : List ℕ → Option (List ℕ) → Verdict
+abbrev pub verdict_on : List ℕ → Given (List ℕ) → Verdict
 verdict_on digest found = verdict_of digest (answer_as found)
 
--- what is said of a line by its verdict; `quiet` says nothing of a good one
-abbrev pub verdict_report : Bool → List ℕ → Verdict → Report
-verdict_report quiet shown Good =
-    record { out = if quiet then [] else shown ++ codes ": OK" ++ line_feed; err = []; tally = one_ok }
-verdict_report quiet shown Differs =
-    record { out = shown ++ codes ": FAILED" ++ line_feed; err = []; tally = one_failed }
-verdict_report quiet shown Unreadable =
-    record { out = shown ++ codes ": FAILED (cannot read)" ++ line_feed; err = []; tally = one_failed }
+-- the same text, but none where the status alone is to tell
+abbrev pub unless_silent : CheckOptions → List ℕ → List ℕ
+unless_silent options text = if options.status then [] else text
 
--- what is said of line `number` of a list, which is refused for a reason
-abbrev pub refusal : ℕ → List ℕ → List ℕ
-refusal number reason = codes "b3sum: line " ++ decimal number ++ codes ": " ++ reason ++ line_feed
+-- the words of a verdict; `quiet` says nothing of a good line, `ignore_missing` nothing of one whose name is
+-- missing
+abbrev pub verdict_words : CheckOptions → Verdict → Option (List ℕ)
+verdict_words options Good = if options.quiet then None else Some (codes ": OK")
+verdict_words options Differs = Some (codes ": FAILED")
+verdict_words options Unreadable = Some (codes ": FAILED (cannot read)")
+verdict_words options IsAway = if options.ignore_missing then None else Some (codes ": FAILED (cannot read)")
 
--- the line fails
-abbrev pub refused_report : ℕ → LineFault → Report
-refused_report number fault = record { out = []; err = refusal number (reason_of fault); tally = one_failed }
+-- what is written of a line by its verdict
+abbrev pub verdict_text : CheckOptions → List ℕ → Verdict → List ℕ
+verdict_text options shown verdict =
+    option_map_or (λ words. shown ++ words ++ line_feed) (verdict_words options verdict) []
+
+-- what is counted; a missing name that is not passed over cannot be read
+abbrev pub verdict_tally : CheckOptions → Verdict → Tally
+verdict_tally options Good = one_ok
+verdict_tally options Differs = one_differing
+verdict_tally options Unreadable = one_unreadable
+verdict_tally options IsAway = if options.ignore_missing then one_missing else one_unreadable
+
+abbrev pub verdict_report : CheckOptions → List ℕ → Verdict → Report
+verdict_report options shown verdict = record {
+  out = unless_silent options (verdict_text options shown verdict);
+  err = [];
+  tally = verdict_tally options verdict;
+}
+
+-- a text for the error output alone, and what is counted
+abbrev pub err_report : CheckOptions → List ℕ → Tally → Report
+err_report options text tally = record { out = []; err = unless_silent options text; tally = tally }
+
+-- why line `number` is refused
+abbrev pub line_reason : ℕ → List ℕ → List ℕ
+line_reason number reason = codes "line " ++ decimal number ++ codes ": " ++ reason
+
+-- what is said of line `number` of a list, which is refused for a reason; `warn` names the list
+abbrev pub refusal : CheckOptions → List ℕ → ℕ → List ℕ → List ℕ
+refusal options list number reason =
+    if options.warn then complaint list (line_reason number reason)
+    else codes "b3sum: " ++ line_reason number reason ++ line_feed
+
+-- the line is malformed
+abbrev pub refused_report : CheckOptions → List ℕ → ℕ → LineFault → Report
+refused_report options list number fault =
+    err_report options (refusal options list number (reason_of fault)) one_malformed
 
 -- the script of line `number` of a list: it is refused, or its name is asked for
-abbrev pub line_script : Bool → ℕ → List ℕ → Option LineFault → Script
-line_script quiet number line (Some fault) = Say (refused_report number fault) Done
-line_script quiet number line None =
+abbrev pub line_script : CheckOptions → List ℕ → ℕ → List ℕ → Option LineFault → Script
+line_script options list number line (Some fault) = Say (refused_report options list number fault) Done
+line_script options list number line None =
     let entry = entry_of line in
-    digest_script line_output entry.name (λ found. verdict_report quiet entry.shown (verdict_on entry.digest found))
+    digest_script line_output entry.name (λ found. verdict_report options entry.shown (verdict_on entry.digest found))
 
 -- the scripts of the lines of a list, of which the first has this number
-abbrev pub line_scripts : Bool → ℕ → List (List ℕ) → List Script
-line_scripts quiet number [] = []
-line_scripts quiet number (line ∷ lines) =
-    line_script quiet number line (first_refusal line) ∷ line_scripts quiet (number + 1) lines
+abbrev pub line_scripts : CheckOptions → List ℕ → ℕ → List (List ℕ) → List Script
+line_scripts options list number [] = []
+line_scripts options list number (line ∷ lines) =
+    line_script options list number line (first_refusal line) ∷ line_scripts options list (number + 1) lines
 
 -- what is said of a list that cannot be read
-abbrev pub unread_list_report : List ℕ → Report
-unread_list_report name = record { out = []; err = complaint name (codes "cannot read"); tally = one_list }
+abbrev pub unread_list_report : CheckOptions → List ℕ → Report
+unread_list_report options list = err_report options (complaint list (codes "cannot read")) one_list
+
+-- whether missing names are passed over, and no name of a list was verified
+abbrev pub is_unverified : CheckOptions → Tally → Bool
+is_unverified options tally = options.ignore_missing && verified_of tally == 0
+
+-- whether a list is to have a check line, and none was found
+abbrev pub has_no_line : CheckOptions → Tally → Bool
+has_no_line options tally = options.strict && well_formed_of tally == 0
+
+-- what is said of a list after its lines, by what was counted in them
+abbrev pub list_end : CheckOptions → List ℕ → Tally → List ℕ
+list_end options list tally =
+    (if is_unverified options tally then complaint list (codes "no file was verified") else [])
+    ++ (if has_no_line options tally then complaint list (codes "no check line found") else [])
+
+-- the list fails for either
+abbrev pub list_end_report : CheckOptions → List ℕ → Tally → Report
+list_end_report options list tally =
+    err_report options (list_end options list tally)
+    (if is_unverified options tally || has_no_line options tally then one_list else no_tally)
+
+abbrev pub list_end_script : CheckOptions → List ℕ → Tally → Script
+list_end_script options list tally = Say (list_end_report options list tally) Done
 
 -- what follows the answer to a list
-abbrev pub lines_script : Bool → List ℕ → Answer → Script
-lines_script quiet name None = Say (unread_list_report name) Done
-lines_script quiet name (Some text) = in_turn (line_scripts quiet 1 (lines_of text))
+abbrev pub lines_script : CheckOptions → List ℕ → Answer → Script
+lines_script options list (Err why) = Say (unread_list_report options list) Done
+lines_script options list (Ok text) =
+    then_counted (in_turn (line_scripts options list 1 (lines_of text))) no_tally (list_end_script options list)
 
 -- the script of one list
-abbrev pub list_script : Bool → List ℕ → Script
-list_script quiet name = Ask Listed name (lines_script quiet name)
+abbrev pub list_script : CheckOptions → List ℕ → Script
+list_script options list = Ask Listed list (lines_script options list)
 
 -- the script of lists
-abbrev pub lists_script : Bool → List (List ℕ) → Script
-lists_script quiet lists = in_turn (map (list_script quiet) lists)
+abbrev pub lists_script : CheckOptions → List (List ℕ) → Script
+lists_script options lists = in_turn (map (list_script options) lists)
 
 -- the words behind the number of lines that failed
 abbrev pub mismatches : ℕ → List ℕ
@@ -112,12 +172,12 @@ warning failed = if failed == 0 then [] else codes "b3sum: WARNING: " ++ decimal
     ++ line_feed
 
 -- the warning after the last list
-abbrev pub warning_report : ℕ → Report
-warning_report failed = record { out = []; err = warning failed; tally = no_tally }
+abbrev pub warning_report : CheckOptions → Tally → Report
+warning_report options tally = err_report options (warning (failed_of tally)) no_tally
 
-abbrev pub warning_script : Tally → Script
-warning_script tally = Say (warning_report tally.failed) Done
+abbrev pub warning_script : CheckOptions → Tally → Script
+warning_script options tally = Say (warning_report options tally) Done
 
 -- the script of a run over lists
 abbrev pub check_script : CheckOptions → List (List ℕ) → Script
-check_script options lists = then_counted (lists_script options.quiet lists) no_tally warning_script
+check_script options lists = then_counted (lists_script options lists) no_tally (warning_script options)

@@ -1,12 +1,11 @@
 -- Digests: which bytes of which output of a content are wanted.
-use Rattle.std.specs.Prelude.{ℕ, List, Option}
-use Rattle.std.specs.Option.{option_map}
+use Rattle.std.specs.Prelude.{ℕ, List}
 use Rattle.b3_core.specs.Modes.{hash_mode}
 use Rattle.b3_core.specs.Output.{blake3}
 use Rattle.b3_core.specs.declared.modes.Mode.{Mode}
 use Rattle.b3_check.specs.declared.hashing.Output.{Output}
 use Rattle.b3_check.specs.declared.options.SumOptions.{SumOptions}
-use Rattle.b3_check.specs.Scripts.{Answer, Report, Script}
+use Rattle.b3_check.specs.Scripts.{Answer, Given, Report, Script, given_map}
 use Rattle.b3_check.specs.Scripts.Kind.{Hashed}
 use Rattle.b3_check.specs.Scripts.Script.{Done, Say, Ask}
 
@@ -18,10 +17,10 @@ output_of mode options = record { mode = mode; seek = options.seek; length = opt
 abbrev pub line_output : Output
 line_output = record { mode = hash_mode; seek = 0; length = 32 }
 
--- the digest of an answer, or nothing: the name cannot be read
-abbrev pub digest_of : Output → Answer → Option (List ℕ)
-digest_of output answer = option_map (λ content. blake3 output.mode content output.seek output.length) answer
+-- the digest of an answer, or why there is none
+abbrev pub digest_of : Output → Answer → Given (List ℕ)
+digest_of output answer = given_map (λ content. blake3 output.mode content output.seek output.length) answer
 
 -- a name is asked for, and the digest of its answer gives what is said
-abbrev pub digest_script : Output → List ℕ → (Option (List ℕ) → Report) → Script
+abbrev pub digest_script : Output → List ℕ → (Given (List ℕ) → Report) → Script
 digest_script output name says = Ask Hashed name (λ answer. Say (says (digest_of output answer)) Done)

@@ -1,5 +1,5 @@
 -- What reading one name says.
-use Rattle.std.specs.Prelude.{◌≡◌, ◌≢◌, ◌⊎◌, ⊤, ℕ, Bool, true, false, IsSome, List, [], ◌∷◌, Option, None, Some, Result, Ok, Err, if◌then◌else◌, length, take}
+use Rattle.std.specs.Prelude.{◌≡◌, ◌≢◌, ◌⊎◌, ⊤, ℕ, Bool, IsSome, List, [], ◌∷◌, Option, None, Some, Result, Ok, Err, length, take}
 use Rattle.std.specs.Option.{option_map}
 use Rattle.std.specs.String.{string_bytes}
 use Rattle.b3_core.specs.Modes.{hash_mode, keyed_mode}
@@ -14,21 +14,22 @@ use Rattle.b3_check.specs.declared.key.KeyRead.{KeyRead}
 use Rattle.b3_check.specs.declared.options.KeyChoice.{KeyChoice}
 use Rattle.b3_check.specs.declared.options.KeyChoice.TheVariants.{Plain, Keyed, Derive}
 use Rattle.b3_check.specs.declared.options.Limits.{Limits}
+use Rattle.b3_check.specs.declared.shelf.NoContent.{NoContent}
 use Rattle.b3_check.specs.Contents.{Contents}
 use Rattle.b3_check.specs.Digests.{digest_of}
 use Rattle.b3_check.specs.Runs.{Broke, IsEndless, Scene, Went}
-use Rattle.b3_check.specs.Scripts.{AgreesWith, Answer, Kind, nothing}
+use Rattle.b3_check.specs.Scripts.{AgreesWith, Answer, Given, Kind, given_map, nothing}
 use Rattle.b3_check.specs.Scripts.Kind.{Hashed, Key}
 use Rattle.b3_check.specs.Sums.{key_name}
 
--- what was found, where the whole content was read; nothing where the name cannot be read
-abbrev pub found_if : Bool → List ℕ → Option (List ℕ)
-found_if whole found = if whole then Some found else None
+-- what was found, where the whole content was read
+abbrev pub found_if : Given ⊤ → List ℕ → Given (List ℕ)
+found_if whole found = given_map (λ _. found) whole
 
--- how many names cannot be read
-abbrev pub unread_count : Result Bool RunFault → ℕ
-unread_count (Ok true) = 0
-unread_count (Ok false) = 1
+-- how many names were not read
+abbrev pub unread_count : Result (Given ⊤) RunFault → ℕ
+unread_count (Ok (Ok _)) = 0
+unread_count (Ok (Err _)) = 1
 unread_count (Err _) = 0
 
 -- a fault that reading a name may give, and why it comes
@@ -47,7 +48,7 @@ pub record IsOutputOf (told : Option Contents) (left : List ℕ) (mode : Mode) (
 
 -- the digest is that of the answer which the name got
 pub record IsDigestOf (told : Option Contents) (sure : Bool) (name : List ℕ) (output : Output)
-    (digest : Option (List ℕ)) : Type 0 where
+    (digest : Given (List ℕ)) : Type 0 where
   pub answer : Answer
   pub agrees : AgreesWith told sure Hashed name answer
   pub is : digest ≡ digest_of output answer
@@ -64,18 +65,18 @@ pub record Unanswered (kind : Kind) (limits : Limits) (name : List ℕ) (before 
   pub cause : IsReadingFault fault before.told limits kind name
 
 -- a name is asked for; `content` is what was read
-abbrev pub Asks : Kind → Limits → List ℕ → Scene → Scene → List ℕ → Result Bool RunFault → Type 0
+abbrev pub Asks : Kind → Limits → List ℕ → Scene → Scene → List ℕ → Result (Given ⊤) RunFault → Type 0
 Asks kind limits name before after content (Ok whole) = Answered kind name (found_if whole content) before after
 Asks kind limits name before after content (Err fault) = Unanswered kind limits name before after fault
 
 -- a name is answered, and the digest is that of its answer
-pub record Digested (output : Output) (name : List ℕ) (digest : Option (List ℕ)) (before after : Scene) : Type 0 where
+pub record Digested (output : Output) (name : List ℕ) (digest : Given (List ℕ)) (before after : Scene) : Type 0 where
   pub answer : Answer
   pub answered : Answered Hashed name answer before after
   pub is : digest ≡ digest_of output answer
 
 -- a name is asked for, and its digest; `digest` is what was found
-abbrev pub Hashes : Output → Limits → List ℕ → Scene → Scene → List ℕ → Result Bool RunFault → Type 0
+abbrev pub Hashes : Output → Limits → List ℕ → Scene → Scene → List ℕ → Result (Given ⊤) RunFault → Type 0
 Hashes output limits name before after digest (Ok whole) = Digested output name (found_if whole digest) before after
 Hashes output limits name before after digest (Err fault) = Unanswered Hashed limits name before after fault
 
@@ -97,21 +98,26 @@ is_unread (Err _) = 0
 abbrev pub key_bytes : KeyRead → List ℕ
 key_bytes key = take key.len key.room
 
-abbrev pub key_answer : Option KeyRead → Answer
-key_answer key = option_map key_bytes key
+abbrev pub key_answer : Given KeyRead → Answer
+key_answer key = given_map key_bytes key
 
 -- the key was asked for and is 32 bytes, and this is its mode
 pub record FoundKey (mode : Mode) (before after : Scene) : Type 0 where
   pub key : List ℕ
-  pub answered : Answered Key key_name (Some key) before after
+  pub answered : Answered Key key_name (Ok key) before after
   pub len : length key ≡ 32
   pub is : mode ≡ keyed_mode key
 
 -- the key was asked for and is not 32 bytes
 pub record FoundBadKey (before after : Scene) : Type 0 where
   pub key : List ℕ
-  pub answered : Answered Key key_name (Some key) before after
+  pub answered : Answered Key key_name (Ok key) before after
   pub len : length key ≢ 32
+
+-- the key was asked for and cannot be read
+pub record FoundNoKey (before after : Scene) : Type 0 where
+  pub why : NoContent
+  pub answered : Answered Key key_name (Err why) before after
 
 -- the mode of a choice of key
 abbrev pub FoundMode : KeyChoice → Mode → Scene → Scene → Type 0
@@ -123,7 +129,7 @@ FoundMode (Derive context) mode before after = (mode ≡ derived_mode (string_by
 abbrev pub FoundNoMode : KeyChoice → RunFault → Scene → Scene → Type 0
 FoundNoMode Plain fault before after = ⊥
 FoundNoMode Keyed fault before after =
-    ((fault ≡ ReadFault) × Answered Key key_name None before after) ⊎ ((fault ≡ BadKey) × FoundBadKey before after)
+    ((fault ≡ ReadFault) × FoundNoKey before after) ⊎ ((fault ≡ BadKey) × FoundBadKey before after)
 FoundNoMode (Derive context) fault before after = ⊥
 
 abbrev pub FindsMode : KeyChoice → Scene → Scene → Result Mode RunFault → Type 0

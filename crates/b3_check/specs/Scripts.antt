@@ -1,15 +1,26 @@
 -- Scripts: what a run says and asks, where what is asked next may depend on the answers so far. The
 -- report of a run and its tally are those of its script over the answers, taken one after the other.
-use Rattle.std.specs.Prelude.{◌≡◌, ◌⊎◌, ⊤, ℕ, ◌+◌, Bool, false, List, [], ◌∷◌, ◌++◌, take, Option, None, Some}
-use Rattle.std.specs.Option.{option_map}
+use Rattle.std.specs.Prelude.{◌≡◌, ◌⊎◌, ⊤, ℕ, ◌+◌, Bool, false, List, [], ◌∷◌, ◌++◌, take, Option, None, Some, Result, Ok, Err}
+use Rattle.std.specs.Option.{ok_or, option_map}
 use Rattle.b3_check.specs.declared.fault.RunFault.{RunFault}
+use Rattle.b3_check.specs.declared.shelf.NoContent.{NoContent}
+use Rattle.b3_check.specs.declared.shelf.NoContent.TheVariants.{Missing, CannotRead}
 use Rattle.b3_check.specs.declared.tally.Tally.{Tally}
 use Rattle.b3_check.specs.Contents.{Contents}
 use Rattle.b3_check.specs.Tallies.{no_tally, tally_sum}
 
--- the bytes of a name, or nothing: it cannot be read
+-- what a name gives, or why it gives nothing: it is missing, or it cannot be read
+abbrev pub Given : Type 0 → Type 0
+Given T = Result T NoContent
+
+-- what is made of what a name gives
+abbrev pub given_map : {T U : Type 0} → (T → U) → Given T → Given U
+given_map f (Ok x) = Ok (f x)
+given_map f (Err why) = Err why
+
+-- the bytes of a name
 abbrev pub Answer : Type 0
-Answer = Option (List ℕ)
+Answer = Given (List ℕ)
 
 -- what is asked of a name: its whole content, which is hashed; its whole content, which is a list of
 -- check lines; or a key, which is at most the first 33 bytes
@@ -66,11 +77,11 @@ report (Say p s) answers = joined p (report s answers)
 report (Ask kind name next) [] = nothing
 report (Ask kind name next) (answer ∷ answers) = report (next answer) answers
 
--- the answer that a content gives
+-- the answer that a content gives; a name that has none is missing
 abbrev pub answer_of : Kind → Option (List ℕ) → Answer
-answer_of Hashed content = content
-answer_of Listed content = content
-answer_of Key content = option_map (take 33) content
+answer_of Hashed content = ok_or content Missing
+answer_of Listed content = ok_or content Missing
+answer_of Key content = ok_or (option_map (take 33) content) Missing
 
 -- the report over the contents of the names
 abbrev pub report_from : Contents → Script → Report
@@ -79,12 +90,12 @@ report_from contents (Fail fault) = nothing
 report_from contents (Say p s) = joined p (report_from contents s)
 report_from contents (Ask kind name next) = report_from contents (next (answer_of kind (contents name)))
 
--- an answer is that of the content, where contents are told; a name whose content is there may be
--- answered as one that cannot be read, but not by a shelf that fails nowhere else
+-- an answer is that of the content, where contents are told; a name may also be answered as one that
+-- cannot be read, but not by a shelf that fails nowhere else
 abbrev pub AgreesWith : Option Contents → Bool → Kind → List ℕ → Answer → Type 0
 AgreesWith None sure kind name answer = ⊤
 AgreesWith (Some contents) sure kind name answer =
-    (answer ≡ answer_of kind (contents name)) ⊎ ((answer ≡ None) × (sure ≡ false))
+    (answer ≡ answer_of kind (contents name)) ⊎ ((answer ≡ Err CannotRead) × (sure ≡ false))
 
 -- the answers are to the names that are asked first, and each agrees with what is told
 abbrev pub AnswersFirst : Option Contents → Bool → Script → List Answer → Type 0
@@ -121,8 +132,8 @@ FailsNext (Say p s) answers fault = FailsNext s answers fault
 FailsNext (Ask kind name next) [] fault = ⊥
 FailsNext (Ask kind name next) (answer ∷ answers) fault = FailsNext (next answer) answers fault
 
--- how many answers say that a name cannot be read
+-- how many answers say that a name is missing or cannot be read
 abbrev pub unread : List Answer → ℕ
 unread [] = 0
-unread (None ∷ answers) = 1 + unread answers
-unread (Some _ ∷ answers) = unread answers
+unread (Err _ ∷ answers) = 1 + unread answers
+unread (Ok _ ∷ answers) = unread answers

@@ -1,5 +1,5 @@
 -- The script of a run that writes the digest of each name of a list.
-use Rattle.std.specs.Prelude.{ℕ, ◌==◌, ◌||◌, ◌&&◌, Bool, true, false, if◌then◌else◌, List, [], ◌∷◌, ◌++◌, Option, None, Some, codes, length, map}
+use Rattle.std.specs.Prelude.{ℕ, ◌==◌, ◌||◌, ◌&&◌, Bool, true, false, if◌then◌else◌, List, [], ◌∷◌, ◌++◌, Ok, Err, codes, length, map}
 use Rattle.std.specs.String.{string_bytes}
 use Rattle.hex.specs.Hex.{encode_lower}
 use Rattle.b3_core.specs.Modes.{hash_mode, keyed_mode}
@@ -14,8 +14,8 @@ use Rattle.b3_check.specs.declared.options.Form.{Form}
 use Rattle.b3_check.specs.declared.options.Form.TheVariants.{Named, Bare, Raw, Tagged}
 use Rattle.b3_check.specs.declared.options.KeyChoice.{KeyChoice}
 use Rattle.b3_check.specs.declared.options.KeyChoice.TheVariants.{Plain, Keyed, Derive}
-use Rattle.b3_check.specs.Tallies.{one_ok, one_failed}
-use Rattle.b3_check.specs.Scripts.{Answer, Script, Report, in_turn}
+use Rattle.b3_check.specs.Tallies.{one_ok, one_unreadable}
+use Rattle.b3_check.specs.Scripts.{Answer, Given, Script, Report, in_turn}
 use Rattle.b3_check.specs.Scripts.Kind.{Key}
 use Rattle.b3_check.specs.Scripts.Script.{Done, Fail, Say, Ask}
 use Rattle.b3_check.specs.Digests.{digest_script, output_of}
@@ -30,7 +30,7 @@ complaint name why = codes "b3sum: " ++ shown name ++ codes ": " ++ why ++ line_
 
 -- a name that gives no digest fails
 abbrev pub failed_report : List ℕ → List ℕ → Report
-failed_report name why = record { out = []; err = complaint name why; tally = one_failed }
+failed_report name why = record { out = []; err = complaint name why; tally = one_unreadable }
 
 -- whether no line can show the name
 abbrev pub is_bad_name : List ℕ → Bool
@@ -50,10 +50,10 @@ digest_text Bare digest name = encode_lower digest ++ line_feed
 digest_text Raw digest name = digest
 digest_text Tagged digest name = tagged digest name
 
--- what is said of a name by its digest, or where it cannot be read
-abbrev pub name_report : Form → List ℕ → Option (List ℕ) → Report
-name_report form name None = failed_report name (codes "cannot read")
-name_report form name (Some digest) = record { out = digest_text form digest name; err = []; tally = one_ok }
+-- what is said of a name by its digest, or where it is missing or cannot be read
+abbrev pub name_report : Form → List ℕ → Given (List ℕ) → Report
+name_report form name (Err why) = failed_report name (codes "cannot read")
+name_report form name (Ok digest) = record { out = digest_text form digest name; err = []; tally = one_ok }
 
 -- the script of one name, which is asked for unless the form shows a name that no line can show
 abbrev pub name_script : Form → Output → List ℕ → Script
@@ -71,8 +71,8 @@ key_name = codes "-"
 
 -- what follows the answer to the key: a fault, unless it is 32 bytes
 abbrev pub keyed_script : (Mode → Script) → Answer → Script
-keyed_script next None = Fail ReadFault
-keyed_script next (Some key) = if length key == 32 then next (keyed_mode key) else Fail BadKey
+keyed_script next (Err why) = Fail ReadFault
+keyed_script next (Ok key) = if length key == 32 then next (keyed_mode key) else Fail BadKey
 
 -- the script in the mode of a choice of key, which is asked for first where it is one that is read
 abbrev pub with_mode : KeyChoice → (Mode → Script) → Script

@@ -1,7 +1,6 @@
 -- What a run does, task after task: no task depends on the answer to another.
-use Rattle.std.specs.Prelude.{◌≡◌, ℕ, ◌+◌, ◌&&◌, Bool, false, true, if◌then◌else◌, List, [], ◌∷◌, Option, None, Some, Result, Ok, Err, codes, length, map}
+use Rattle.std.specs.Prelude.{◌≡◌, ℕ, ◌+◌, ◌&&◌, false, true, if◌then◌else◌, List, [], ◌∷◌, Option, None, Some, Result, Ok, Err, codes, length, map}
 use Rattle.std.specs.Borrow.{Bor}
-use Rattle.std.specs.Option.{option_map}
 use Rattle.std.specs.String.{string_bytes}
 use Rattle.b3_lines.specs.Reading.{first_refusal}
 use Rattle.b3_lines.specs.declared.fault.LineFault.{LineFault}
@@ -12,6 +11,7 @@ use Rattle.b3_check.specs.declared.items.Item.{Item}
 use Rattle.b3_check.specs.declared.items.Item.TheVariants.{Say as SayItem, Ask as AskItem}
 use Rattle.b3_check.specs.declared.items.Subject.{Subject}
 use Rattle.b3_check.specs.declared.items.Subject.TheVariants.{Line, Name}
+use Rattle.b3_check.specs.declared.options.CheckOptions.{CheckOptions}
 use Rattle.b3_check.specs.declared.options.Form.{Form}
 use Rattle.b3_check.specs.declared.options.Limits.{Limits}
 use Rattle.b3_check.specs.declared.said.Said.{Said}
@@ -19,7 +19,7 @@ use Rattle.b3_check.specs.Checks.{entry_of, refused_report, verdict_on, verdict_
 use Rattle.b3_check.specs.Digests.{digest_of, digest_script}
 use Rattle.b3_check.specs.Reading.{Answered}
 use Rattle.b3_check.specs.Runs.{Broke, Scene, Stopped, Went}
-use Rattle.b3_check.specs.Scripts.{Answer, Report, Script, in_turn}
+use Rattle.b3_check.specs.Scripts.{Answer, Given, Report, Script, given_map, in_turn}
 use Rattle.b3_check.specs.Scripts.Kind.{Hashed}
 use Rattle.b3_check.specs.Scripts.Script.{Done, Say}
 use Rattle.b3_check.specs.Sums.{failed_report, is_bad_name, name_report, shows_name}
@@ -28,7 +28,7 @@ use Rattle.b3_check.specs.Tallies.{counted}
 -- something is said, or a name is asked for and what its digest gives is said
 pub data Task : Type 0 where
   Tell : Report → Task
-  Find : List ℕ → (Option (List ℕ) → Report) → Task
+  Find : List ℕ → (Given (List ℕ) → Report) → Task
 
 -- what a task says or asks
 abbrev pub task_script : Output → Task → Script
@@ -45,17 +45,18 @@ report_of said = record { out = said.out.items; err = said.err.items; tally = sa
 -- the name that is asked for
 abbrev pub name_asked : Subject → List ℕ
 name_asked (Name form name) = name.now
-name_asked (Line quiet line) = string_bytes line.name
+name_asked (Line options line) = string_bytes line.name
 
 -- what its digest gives
-abbrev pub subject_report : Subject → Option (List ℕ) → Report
+abbrev pub subject_report : Subject → Given (List ℕ) → Report
 subject_report (Name form name) digest = name_report form name.now digest
-subject_report (Line quiet line) digest = verdict_report quiet (string_bytes line.shown) (verdict_on line.digest digest)
+subject_report (Line options line) digest =
+    verdict_report options (string_bytes line.shown) (verdict_on line.digest digest)
 
 -- a name that is shown can be shown, and a digest that is compared has the length of a line's
 abbrev pub IsFit : ℕ → Subject → Type 0
 IsFit len (Name form name) = shows_name form ≡ true → is_bad_name name.now ≡ false
-IsFit len (Line quiet line) = len ≡ 32
+IsFit len (Line options line) = len ≡ 32
 
 -- the task of an item
 abbrev pub task_of : Item → Task
@@ -72,27 +73,27 @@ abbrev pub Says : {T : Type 0} → Report → Scene → Scene → Result T RunFa
 Says said before after (Ok _) = Went before after [] said
 Says said before after (Err fault) = Broke before after [] said fault × (fault ≡ WriteFault)
 
--- the bytes that are lent, if any
-abbrev pub bytes_of : Option (Bor (List ℕ)) → Option (List ℕ)
-bytes_of lent = option_map (λ (bytes : Bor (List ℕ)). bytes.now) lent
+-- the bytes that are lent, or why there are none
+abbrev pub bytes_of : Given (Bor (List ℕ)) → Given (List ℕ)
+bytes_of lent = given_map (λ (bytes : Bor (List ℕ)). bytes.now) lent
 
 -- how long a digest is; one that is not there is as long as any
-abbrev pub len_of : Option (Bor (List ℕ)) → ℕ
-len_of None = 32
-len_of (Some digest) = length digest.now
+abbrev pub len_of : Given (Bor (List ℕ)) → ℕ
+len_of (Err why) = 32
+len_of (Ok digest) = length digest.now
 
 -- the task of a line
-abbrev pub line_task : Bool → ℕ → List ℕ → Option LineFault → Task
-line_task quiet number line (Some fault) = Tell (refused_report number fault)
-line_task quiet number line None =
+abbrev pub line_task : CheckOptions → List ℕ → ℕ → List ℕ → Option LineFault → Task
+line_task options list number line (Some fault) = Tell (refused_report options list number fault)
+line_task options list number line None =
     let entry = entry_of line in
-    Find entry.name (λ found. verdict_report quiet entry.shown (verdict_on entry.digest found))
+    Find entry.name (λ found. verdict_report options entry.shown (verdict_on entry.digest found))
 
 -- the tasks of lines, of which the first has this number
-abbrev pub line_tasks : Bool → ℕ → List (List ℕ) → List Task
-line_tasks quiet number [] = []
-line_tasks quiet number (line ∷ lines) = line_task quiet number line (first_refusal line) ∷ line_tasks quiet
-    (number + 1) lines
+abbrev pub line_tasks : CheckOptions → List ℕ → ℕ → List (List ℕ) → List Task
+line_tasks options list number [] = []
+line_tasks options list number (line ∷ lines) =
+    line_task options list number line (first_refusal line) ∷ line_tasks options list (number + 1) lines
 
 -- the task of a name
 abbrev pub name_task : Form → List ℕ → Task
@@ -101,13 +102,13 @@ name_task form name =
     else Find name (name_report form name)
 
 -- a name is answered, and what is to be said is what its digest gives
-pub record Gave (output : Output) (name : List ℕ) (says : Option (List ℕ) → Report) (before after : Scene)
+pub record Gave (output : Output) (name : List ℕ) (says : Given (List ℕ) → Report) (before after : Scene)
     (said : Said) : Type 0 where
   pub answer : Answer
   pub answered : Answered Hashed name answer before after
   pub is : report_of said ≡ says (digest_of output answer)
 
-abbrev pub Gives : Limits → Output → List ℕ → (Option (List ℕ) → Report) → Scene → Scene → Result Said RunFault → Type 0
+abbrev pub Gives : Limits → Output → List ℕ → (Given (List ℕ) → Report) → Scene → Scene → Result Said RunFault → Type 0
 Gives limits output name says before after (Ok said) = Gave output name says before after said
 Gives limits output name says before after (Err fault) = Stopped limits (digest_script output name says) before after
     fault

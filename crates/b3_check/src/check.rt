@@ -1,7 +1,7 @@
 //! The run that checks lists of check lines.
 
-ghost use Rattle.std.specs.Prelude.{◌≡◌, ◌+◌, ◌*◌, ◌-◌, ◌^◌, ◌<◌, ◌≤◌, map, string_bytes, length, IfOk, IfErr, if◌then◌else◌};
-ghost use Rattle.b3_check.specs.Checks.{check_script, list_script, lists_script};
+ghost use Rattle.std.specs.Prelude.{◌≡◌, ◌+◌, ◌*◌, ◌-◌, ◌^◌, ◌<◌, ◌≤◌, Ok, map, string_bytes, length, vec_len, IfOk, IfErr, if◌then◌else◌};
+ghost use Rattle.b3_check.specs.Checks.{check_script, lines_script, list_script, lists_script};
 ghost use Rattle.b3_check.specs.Digests.{line_output};
 ghost use Rattle.b3_check.specs.Faults.{is_write_fault};
 ghost use Rattle.b3_check.specs.Options.{CanCheck, check_limits};
@@ -15,7 +15,7 @@ use crate::fault::RunFault;
 use crate::hashing::Output;
 use crate::list_lines::ListLines;
 use crate::lists::ListReader;
-use crate::options::{CheckOptions, Limits};
+use crate::options::CheckOptions;
 use crate::said::Said;
 use crate::shelf::Shelf;
 use crate::sink::Sink;
@@ -34,9 +34,9 @@ const DIGEST_LEN: u32 = 32;
 const FIRST_LINE: u64 = 1;
 
 /// Reads lists of check lines, hashes the names in them, and writes to `out` whether each has the
-/// digest of its line; to `err` goes each list that cannot be read, each line that is refused, and at
-/// the end how many lines failed. Answers how many lines are ok, how many failed, and how many lists
-/// cannot be read.
+/// digest of its line; to `err` goes each list that cannot be read, each line that is refused, after the
+/// lines of a list what is wrong with it as a whole, and at the end how many lines failed. The options say
+/// which names are passed over and which texts are left out. Answers what was counted.
 ///
 /// A list is read whole. A run fault ends the run.
 pub fn run_check<
@@ -61,8 +61,8 @@ pub fn run_check<
     requires out_failures { O.failures out.old < 2 ^ 63 }
     requires err_failures { E.failures err.old < 2 ^ 63 }
 
-    // The texts and the tally are those of one list of answers, as many of them CannotRead as the
-    // shelf's count rose.
+    // The texts and the tally are those of one list of answers, in which as many names were not read as
+    // the shelf's count rose.
     ensures ok { IfOk result (λ tally. Ran (check_script options.now (map string_bytes lists.now))
         (scene S.Shelf O.Sink E.Sink shelf.old out.old err.old)
         (scene S.Shelf O.Sink E.Sink shelf.new out.new err.new) tally) }
@@ -114,7 +114,7 @@ fn check_lists<R: Threads + Wait + Sync, G: Gate + Sync, S: Shelf + Send + Sync,
 {
     let mut checker = Checker::new(alloc, crew, options)?;
     let tally = checker.check_all(desk, lists)?;
-    let said = Said::warning(alloc, tally.failed)?;
+    let said = Said::warning(alloc, options, &tally)?;
     desk.say(&said)?;
     Ok(tally)
 }
@@ -123,12 +123,11 @@ fn check_lists<R: Threads + Wait + Sync, G: Gate + Sync, S: Shelf + Send + Sync,
 #[derive(Drop)]
 struct Checker<'c, R, G> {
     alloc: Global,
-    quiet: bool,
-    limits: Limits,
+    options: CheckOptions,
     reader: ListReader,
     worker: Worker<'c, R, G>,
-    ghost largest: { limits.largest ≤ 2 ^ 30 },
-    ghost same_limits: { worker.limits ≡ limits },
+    ghost largest: { options.largest ≤ 2 ^ 30 },
+    ghost same_limits: { worker.limits ≡ check_limits options },
     ghost output: { worker.digester.output ≡ line_output },
 }
 
@@ -140,8 +139,7 @@ impl<'c, R: Threads + Wait + Sync, G: Gate + Sync> Checker<'c, R, G> {
         options: &CheckOptions,
     ) -> Result<Checker<'c, R, G>, AllocError>
         requires { CanCheck options.now }
-        ensures quiet { IfOk result (λ checker. checker.quiet ≡ options.now.quiet) }
-        ensures limits { IfOk result (λ checker. checker.limits ≡ check_limits options.now) }
+        ensures { IfOk result (λ checker. checker.options ≡ options.now) }
     {
         let output = Output {
             mode: Mode::hash(),
@@ -150,8 +148,7 @@ impl<'c, R: Threads + Wait + Sync, G: Gate + Sync> Checker<'c, R, G> {
         };
         Ok(Checker {
             alloc,
-            quiet: options.quiet,
-            limits: options.limits(),
+            options: *options,
             reader: ListReader::new(alloc)?,
             worker: Worker::new(alloc, crew, output, options.limits())?,
         })
@@ -165,11 +162,13 @@ impl<'c, R: Threads + Wait + Sync, G: Gate + Sync> Checker<'c, R, G> {
     ) -> Result<Tally, RunFault>
         requires lists { length lists.now ≤ 2 ^ 30 }
         requires room { HasRoom (scene_of S.Shelf O.Sink E.Sink desk.old)
-            (length lists.now * (1 + self.old.limits.largest)) }
-        ensures run { Runs self.old.limits (lists_script self.old.quiet (map string_bytes lists.now))
+            (length lists.now * (1 + self.old.options.largest)) }
+        ensures run { Runs (check_limits self.old.options) (lists_script self.old.options (map string_bytes lists.now))
             (scene_of S.Shelf O.Sink E.Sink desk.old) (scene_of S.Shelf O.Sink E.Sink desk.new) result }
         ensures shelf_count { S.failures desk.new.shelf.now
-            ≤ S.failures desk.old.shelf.now + length lists.now * (1 + self.old.limits.largest) }
+            ≤ S.failures desk.old.shelf.now + length lists.now *
+            (1 + self.old.options.largest) }
+        ensures count { IfOk result (λ tally. counted tally ≤ length lists.now * (1 + self.old.options.largest)) }
         ensures loans { loans desk.new ≡ loans desk.old }
     {
         let mut tally = Tally::none();
@@ -186,22 +185,49 @@ impl<'c, R: Threads + Wait + Sync, G: Gate + Sync> Checker<'c, R, G> {
         desk: &mut Desk<'_, '_, '_, S, O, E>,
         name: &str,
     ) -> Result<Tally, RunFault>
-        requires { HasRoom (scene_of S.Shelf O.Sink E.Sink desk.old) (1 + self.old.limits.largest) }
-        ensures run { Runs self.old.limits (list_script self.old.quiet name.now)
+        requires { HasRoom (scene_of S.Shelf O.Sink E.Sink desk.old) (1 + self.old.options.largest) }
+        ensures run { Runs (check_limits self.old.options) (list_script self.old.options name.now)
             (scene_of S.Shelf O.Sink E.Sink desk.old) (scene_of S.Shelf O.Sink E.Sink desk.new) result }
-        ensures count { IfOk result (λ tally. counted tally ≤ 1 + self.old.limits.largest) }
+        ensures count { IfOk result (λ tally. counted tally ≤ 1 + self.old.options.largest) }
         ensures shelf_count { S.failures desk.new.shelf.now
-            ≤ S.failures desk.old.shelf.now + (1 + self.old.limits.largest) }
+            ≤ S.failures desk.old.shelf.now + (1 + self.old.options.largest) }
         ensures loans { loans desk.new ≡ loans desk.old }
-        ensures quiet { self.new.quiet ≡ self.old.quiet }
-        ensures limits { self.new.limits ≡ self.old.limits }
+        ensures options { self.new.options ≡ self.old.options }
     {
-        if !desk.read_list(&mut self.reader, name, self.limits)? {
-            let said = Said::unread_list(self.alloc, name)?;
-            desk.say(&said)?;
-            return Ok(said.tally);
+        let limits = self.options.limits();
+        match desk.read_list(&mut self.reader, name, limits)? {
+            Ok(()) => self.check_lines(desk, name),
+            Err(_) => {
+                let said = Said::unread_list(self.alloc, &self.options, name)?;
+                desk.say(&said)?;
+                Ok(said.tally)
+            }
         }
-        let mut agenda = ListLines::new(self.alloc, self.quiet, FIRST_LINE, self.reader.text());
-        self.worker.run(desk, &mut agenda)
+    }
+
+    // Checks the lines of the list of this name, which was read.
+    fn check_lines<S: Shelf + Send + Sync, O: Sink, E: Sink>(
+        &mut self,
+        desk: &mut Desk<'_, '_, '_, S, O, E>,
+        name: &str,
+    ) -> Result<Tally, RunFault>
+        requires text { vec_len self.old.reader.text ≤ self.old.options.largest }
+        requires room { HasRoom (scene_of S.Shelf O.Sink E.Sink desk.old) self.old.options.largest }
+        ensures run { Runs (check_limits self.old.options)
+            (lines_script self.old.options name.now (Ok self.old.reader.text.items))
+            (scene_of S.Shelf O.Sink E.Sink desk.old) (scene_of S.Shelf O.Sink E.Sink desk.new) result }
+        ensures count { IfOk result (λ tally. counted tally ≤ 1 + self.old.options.largest) }
+        ensures shelf_count { S.failures desk.new.shelf.now
+            ≤ S.failures desk.old.shelf.now + self.old.options.largest }
+        ensures loans { loans desk.new ≡ loans desk.old }
+        ensures options { self.new.options ≡ self.old.options }
+    {
+        let (alloc, options) = (self.alloc, self.options);
+        let mut agenda = ListLines::new(alloc, options, name, FIRST_LINE, self.reader.text());
+        let mut tally = self.worker.run(desk, &mut agenda)?;
+        let said = Said::list_end(alloc, &options, name, &tally)?;
+        desk.say(&said)?;
+        tally.add(&said.tally);
+        Ok(tally)
     }
 }

@@ -15,7 +15,7 @@ use crate::key::KeyRead;
 use crate::lists::ListReader;
 use crate::options::Limits;
 use crate::said::Said;
-use crate::shelf::Shelf;
+use crate::shelf::{NoContent, Shelf};
 use crate::sink::Sink;
 use crate::writing::write_all;
 use b3_board::Gate;
@@ -47,7 +47,8 @@ impl<'s, 'o, 'e, S, O, E> Drop for Desk<'s, 'o, 'e, S, O, E> {
 impl<'s, 'o, 'e, S: Shelf + Send + Sync, O: Sink, E: Sink> Desk<'s, 'o, 'e, S, O, E> {
     ghost use Rattle.b3_check.specs.Desks.{loans, scene_of};
 
-    /// Hashes the content of a name, of which the node may be known, and answers whether it can be read.
+    /// Hashes the content of a name, of which the node may be known, and answers whether it can be read, or why
+    /// not.
     #[tactic(auto, using(crate::proofs::AheadLemmas::digested_known))]
     pub fn hash<R: Threads + Wait + Sync, G: Gate + Sync>(
         &mut self,
@@ -56,7 +57,7 @@ impl<'s, 'o, 'e, S: Shelf + Send + Sync, O: Sink, E: Sink> Desk<'s, 'o, 'e, S, O
         name: &str,
         node: Option<Node>,
         limits: Limits,
-    ) -> Result<bool, RunFault>
+    ) -> Result<Result<(), NoContent>, RunFault>
         requires known { IfSome node (IsNodeOf (S.told self.old.shelf.now) digester.old.output.mode name.now) }
         requires room { HasRoom (scene_of S.Shelf O.Sink E.Sink self.old) 1 }
         requires some_turns { 0 < limits.turns }
@@ -68,13 +69,13 @@ impl<'s, 'o, 'e, S: Shelf + Send + Sync, O: Sink, E: Sink> Desk<'s, 'o, 'e, S, O
     {
         if let Some(node) = node {
             digester.take_node(node);
-            return Ok(true);
+            return Ok(Ok(()));
         }
         digester.hash_name(crew, self.shelf, name, limits)
     }
 
-    /// Reads the key, or answers nothing where it cannot be read.
-    pub fn read_key(&mut self) -> Option<KeyRead>
+    /// Reads the key, or answers why it cannot be read.
+    pub fn read_key(&mut self) -> Result<KeyRead, NoContent>
         requires { HasRoom (scene_of S.Shelf O.Sink E.Sink self.old) 1 }
         ensures answered { Answered Key key_name (key_answer result) (scene_of S.Shelf O.Sink E.Sink self.old)
             (scene_of S.Shelf O.Sink E.Sink self.new) }
@@ -83,13 +84,13 @@ impl<'s, 'o, 'e, S: Shelf + Send + Sync, O: Sink, E: Sink> Desk<'s, 'o, 'e, S, O
         KeyRead::read(self.shelf)
     }
 
-    /// Reads a list, and answers whether it can be read.
+    /// Reads a list, and answers whether it can be read, or why not.
     pub fn read_list(
         &mut self,
         reader: &mut ListReader,
         name: &str,
         limits: Limits,
-    ) -> Result<bool, RunFault>
+    ) -> Result<Result<(), NoContent>, RunFault>
         requires { HasRoom (scene_of S.Shelf O.Sink E.Sink self.old) 1 }
         ensures asked { Asks Listed limits name.now (scene_of S.Shelf O.Sink E.Sink self.old)
             (scene_of S.Shelf O.Sink E.Sink self.new) reader.new.text.items result }

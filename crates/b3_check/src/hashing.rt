@@ -16,7 +16,7 @@ use crate::fault::RunFault;
 use crate::options::Limits;
 use crate::pieces::{Hand, hands, hash_pieces};
 use crate::room::zeros;
-use crate::shelf::Shelf;
+use crate::shelf::{NoContent, Shelf};
 use crate::window::{Found, fill};
 use b3_board::Gate;
 use b3_core::{CHUNK_LEN, Mode, Node};
@@ -84,7 +84,7 @@ impl Digester {
         self.digest.as_slice()
     }
 
-    /// Hashes the content of a name (BLAKE3 (2020), 2.6), and answers whether it can be read. A run
+    /// Hashes the content of a name (BLAKE3 (2020), 2.6), and answers whether it can be read, or why not. A run
     /// fault comes where the content has not ended after as many reads as `limits` allow.
     pub fn hash_name<R: Threads + Wait + Sync, G: Gate + Sync, S: Shelf + Send + Sync>(
         &mut self,
@@ -92,7 +92,7 @@ impl Digester {
         shelf: &mut S,
         name: &str,
         limits: Limits,
-    ) -> Result<bool, RunFault>
+    ) -> Result<Result<(), NoContent>, RunFault>
         requires count { S.failures shelf.old < 2 ^ 64 - 1 }
         requires some_turns { 0 < limits.turns }
         requires turns { limits.turns ≤ 2 ^ 40 }
@@ -105,14 +105,14 @@ impl Digester {
         ensures still_sure { S.is_sure shelf.new ≡ S.is_sure shelf.old }
         ensures output { self.new.output ≡ self.old.output }
     {
-        if shelf.begin(name).is_err() {
-            return Ok(false);
+        if let Err(why) = shelf.begin(name) {
+            return Ok(Err(why));
         }
         let Some(output) = self.hash_rest(crew, shelf, limits)? else {
-            return Ok(false);
+            return Ok(Err(NoContent::CannotRead));
         };
         self.take_digest(output);
-        Ok(true)
+        Ok(Ok(()))
     }
 
     // Hashes what is left of the file that is begun, and answers its output, or nothing where it cannot be

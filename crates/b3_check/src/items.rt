@@ -4,8 +4,9 @@ ghost use Rattle.std.specs.Prelude.{◌≡◌, ℕ, Bool, List, [], ◌∷◌, t
 ghost use Rattle.b3_check.specs.Sums.{is_bad_name, shows_name};
 ghost use Rattle.b3_check.specs.Tasks.{IsFit, IsFitItem, Task, bytes_of, len_of, name_asked, name_task, report_of, subject_report, task_of};
 
-use crate::options::Form;
+use crate::options::{CheckOptions, Form};
 use crate::said::Said;
+use crate::shelf::NoContent;
 use b3_lines::{Line, holds_bad_character};
 use std::alloc::{AllocError, Global};
 
@@ -23,9 +24,8 @@ pub enum Item<'a> {
 pub enum Subject<'a> {
     /// The digest is written in this form.
     Name(Form, &'a str),
-    /// The digest is compared with that of the line. Where the first is set, nothing is said if they are
-    /// equal.
-    Line(bool, Line),
+    /// The digest is compared with that of the line, and said with these options.
+    Line(CheckOptions, Line),
 }
 
 impl Subject<'_> {
@@ -39,14 +39,14 @@ impl Subject<'_> {
         }
     }
 
-    /// What this digest gives, or none: the name cannot be read.
-    pub fn said(&self, alloc: Global, digest: Option<&[u8]>) -> Result<Said, AllocError>
+    /// What this digest gives, or why there is none.
+    pub fn said(&self, alloc: Global, digest: Result<&[u8], NoContent>) -> Result<Said, AllocError>
         requires { IsFit (len_of digest) self.now }
         ensures { IfOk result (λ said. report_of said ≡ subject_report self.now (bytes_of digest.entry)) }
     {
         match self {
             Subject::Name(form, name) => Said::of_name(alloc, *form, name, digest),
-            Subject::Line(quiet, line) => Said::of_line(alloc, *quiet, line, digest),
+            Subject::Line(options, line) => Said::of_line(alloc, options, line, digest),
         }
     }
 }

@@ -10,6 +10,8 @@ use b3_lines::Line;
 pub enum Answer {
     /// The name has this digest.
     Digest([u8; 32]),
+    /// No such name is there.
+    Missing,
     /// The name cannot be read.
     CannotRead,
 }
@@ -21,6 +23,8 @@ pub enum Verdict {
     Good,
     /// It is another.
     Differs,
+    /// No such name is there.
+    Missing,
     /// The name cannot be read.
     Unreadable,
 }
@@ -32,6 +36,7 @@ pub fn judge(line: &Line, answer: &Answer) -> Verdict
     match answer {
         Answer::Digest(found) if *found == line.digest => Verdict::Good,
         Answer::Digest(_) => Verdict::Differs,
+        Answer::Missing => Verdict::Missing,
         Answer::CannotRead => Verdict::Unreadable,
     }
 }

@@ -10,7 +10,7 @@ ghost use Rattle.b3_check.specs.declared.fault.RunFault.TheVariants.{BadKey};
 
 use crate::fault::RunFault;
 use crate::room::read_at;
-use crate::shelf::Shelf;
+use crate::shelf::{NoContent, Shelf};
 use b3_core::Mode;
 
 /// The name that a key is read from.
@@ -30,18 +30,16 @@ pub struct KeyRead {
 }
 
 impl KeyRead {
-    /// Reads the key, or answers nothing where it cannot be read. Each read asks for what is missing.
-    pub fn read<S: Shelf>(shelf: &mut S) -> Option<KeyRead>
+    /// Reads the key, or answers why it cannot be read. Each read asks for what is missing.
+    pub fn read<S: Shelf>(shelf: &mut S) -> Result<KeyRead, NoContent>
         requires { S.failures shelf.old < 2 ^ 64 - 1 }
         ensures answer { AgreesWith (S.told shelf.old) (S.is_sure shelf.old) Key key_name (key_answer result) }
-        ensures count { S.failures shelf.new ≡ S.failures shelf.old + (if is_none result then 1 else 0) }
+        ensures count { S.failures shelf.new ≡ S.failures shelf.old + (if is_err result then 1 else 0) }
         ensures told { S.told shelf.new ≡ S.told shelf.old }
         ensures still_sure { S.is_sure shelf.new ≡ S.is_sure shelf.old }
     {
-        if shelf.begin(KEY_NAME).is_err() {
-            return None;
-        }
-        read_rest(shelf)
+        shelf.begin(KEY_NAME)?;
+        read_rest(shelf).ok_or(NoContent::CannotRead)
     }
 
     /// The mode of the key, which is to be 32 bytes.

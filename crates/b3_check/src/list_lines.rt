@@ -5,6 +5,7 @@ ghost use Rattle.b3_lines.specs.Lines.{IsWithin, line_at, lines_of};
 ghost use Rattle.b3_check.specs.Tasks.{line_tasks};
 
 use crate::items::{Agenda, Item, Subject};
+use crate::options::CheckOptions;
 use crate::said::Said;
 use b3_lines::{LineFault, Lines, lines, read_line};
 use std::alloc::{AllocError, Global};
@@ -13,7 +14,9 @@ use std::alloc::{AllocError, Global};
 #[derive(Drop)]
 pub struct ListLines<'t> {
     alloc: Global,
-    quiet: bool,
+    options: CheckOptions,
+    /// The name of the list.
+    name: &'t str,
     text: &'t [u8],
     places: Lines<'t>,
     /// The number of the next line.
@@ -23,16 +26,24 @@ pub struct ListLines<'t> {
 }
 
 impl<'t> ListLines<'t> {
-    /// The lines of this text, numbered from `first` on. `quiet` says nothing of a good one.
-    pub fn new(alloc: Global, quiet: bool, first: u64, text: &'t [u8]) -> ListLines<'t>
+    /// The lines of the list of this name and text, numbered from `first` on.
+    pub fn new(
+        alloc: Global,
+        options: CheckOptions,
+        name: &'t str,
+        first: u64,
+        text: &'t [u8],
+    ) -> ListLines<'t>
         requires { first + length text.now ≤ 2 ^ 32 }
-        ensures lines { ⟦<ListLines<'t> as Agenda<'t>>⟧.left result ≡ line_tasks quiet first (lines_of text.now) }
+        ensures lines { ⟦<ListLines<'t> as Agenda<'t>>⟧.left result
+            ≡ line_tasks options name.now first (lines_of text.now) }
         ensures few { length (⟦<ListLines<'t> as Agenda<'t>>⟧.left result) ≤ length text.now }
         ensures fits { ⟦<ListLines<'t> as Agenda<'t>>⟧.fits result 32 ≡ true }
     {
         ListLines {
             alloc,
-            quiet,
+            options,
+            name,
             text,
             places: lines(text),
             number: first,
@@ -41,7 +52,8 @@ impl<'t> ListLines<'t> {
 }
 
 impl<'t> Agenda<'t> for ListLines<'t> {
-    ghost left = { λ agenda. line_tasks agenda.quiet agenda.number (map (line_at agenda.text.now) agenda.places) };
+    ghost left = { λ agenda. line_tasks agenda.options agenda.name.now agenda.number
+        (map (line_at agenda.text.now) agenda.places) };
 
     ghost fits = { λ _ len. len == 32 };
 
@@ -52,9 +64,12 @@ impl<'t> Agenda<'t> for ListLines<'t> {
         let number = self.number;
         self.number += 1;
         match read_line(self.alloc, &self.text[start..end]) {
-            Ok(line) => Ok(Some(Item::Ask(Subject::Line(self.quiet, line)))),
+            Ok(line) => Ok(Some(Item::Ask(Subject::Line(self.options, line)))),
             Err(LineFault::Memory) => Err(AllocError),
-            Err(fault) => Ok(Some(Item::Say(Said::refused(self.alloc, number, fault)?))),
+            Err(fault) => {
+                let said = Said::refused(self.alloc, &self.options, self.name, number, fault)?;
+                Ok(Some(Item::Say(said)))
+            }
         }
     }
 }

@@ -1,15 +1,16 @@
 //! A list of check lines, as it is read.
 
-ghost use Rattle.std.specs.Prelude.{◌≡◌, ◌-◌, ◌+◌, ◌^◌, ◌<◌, ◌≤◌, [], true, false, IsSome, IfOk, IfErr, OnOk, length, vec_len};
+ghost use Rattle.std.specs.Prelude.{◌≡◌, ◌-◌, ◌+◌, ◌^◌, ◌<◌, ◌≤◌, [], false, IsSome, IfOk, IfErr, MatchResult, OnOk, length, vec_len};
 ghost use Rattle.b3_check.specs.Faults.{is_write_fault};
 ghost use Rattle.b3_check.specs.Reading.{IsFaultOfRest, IsReadingFault, found_if, unread_count};
 ghost use Rattle.b3_check.specs.Scripts.{AgreesWith};
 ghost use Rattle.b3_check.specs.Scripts.Kind.{Listed};
+ghost use Rattle.b3_check.specs.declared.shelf.NoContent.TheVariants.{CannotRead};
 
 use crate::fault::RunFault;
 use crate::options::Limits;
 use crate::room::{READ_LEN, zeros};
-use crate::shelf::Shelf;
+use crate::shelf::{NoContent, Shelf};
 use std::alloc::{AllocError, Global};
 
 /// Reads lists whole, one after the other, over the same memory.
@@ -36,14 +37,14 @@ impl ListReader {
         self.text.as_slice()
     }
 
-    /// Reads the list of this name, and answers whether it can be read. A run fault comes where it has
-    /// more bytes than `limits` allow, or has not ended after as many reads.
+    /// Reads the list of this name, and answers whether it can be read, or why not. A run fault comes where
+    /// it has more bytes than `limits` allow, or has not ended after as many reads.
     pub fn read<S: Shelf>(
         &mut self,
         shelf: &mut S,
         name: &str,
         limits: Limits,
-    ) -> Result<bool, RunFault>
+    ) -> Result<Result<(), NoContent>, RunFault>
         requires { S.failures shelf.old < 2 ^ 64 - 1 }
         ensures answer { IfOk result (λ whole. AgreesWith (S.told shelf.old) (S.is_sure shelf.old) Listed name.now
             (found_if whole self.new.text.items)) }
@@ -55,8 +56,8 @@ impl ListReader {
         ensures still_sure { S.is_sure shelf.new ≡ S.is_sure shelf.old }
     {
         self.text.clear();
-        if shelf.begin(name).is_err() {
-            return Ok(false);
+        if let Err(why) = shelf.begin(name) {
+            return Ok(Err(why));
         }
         read_rest(shelf, self.room.as_mut_slice(), &mut self.text, limits)
     }
@@ -68,12 +69,13 @@ fn read_rest<S: Shelf>(
     room: &mut [u8],
     text: &mut Vec<u8>,
     limits: Limits,
-) -> Result<bool, RunFault>
+) -> Result<Result<(), NoContent>, RunFault>
     requires count { S.failures shelf.old < 2 ^ 64 - 1 }
     requires room { 0 < length room.old }
     requires empty { text.old.items ≡ [] }
-    ensures whole { result ≡ Ok true → IsSome (S.told shelf.old) → S.left shelf.old ≡ text.new.items }
-    ensures sure { result ≡ Ok false → S.is_sure shelf.old ≡ false }
+    ensures read { IfOk result (λ read. MatchResult read
+        (λ _. IsSome (S.told shelf.old) → S.left shelf.old ≡ text.new.items)
+        (λ why. (why ≡ CannotRead) × (S.is_sure shelf.old ≡ false))) }
     ensures fault { IfErr result (λ fault. IsFaultOfRest fault (S.told shelf.old) limits Listed (S.left shelf.old)) }
     ensures no_sink { is_write_fault result ≡ false }
     ensures largest { OnOk result (vec_len text.new ≤ limits.largest) }
@@ -84,10 +86,10 @@ fn read_rest<S: Shelf>(
 {
     for _turn in 0..limits.turns {
         let Ok(count) = shelf.read(room) else {
-            return Ok(false);
+            return Ok(Err(NoContent::CannotRead));
         };
         if count == 0 {
-            return Ok(true);
+            return Ok(Ok(()));
         }
         if count as u64 > limits.largest - text.len() as u64 {
             return Err(RunFault::EndlessInput);

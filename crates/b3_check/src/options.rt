@@ -54,6 +54,14 @@ pub struct SumOptions {
 pub struct CheckOptions {
     /// Whether nothing is written for a name whose digest is that of its line.
     pub quiet: bool,
+    /// Whether a missing name is passed over. A list of which no name was verified fails then.
+    pub ignore_missing: bool,
+    /// Whether nothing is written at all: the status alone tells.
+    pub status: bool,
+    /// Whether a list without a check line fails.
+    pub strict: bool,
+    /// Whether the list is named where a line of it is malformed.
+    pub warn: bool,
     /// How many workers may hash, each in a thread.
     pub workers: u32,
     /// How many reads a file may take.

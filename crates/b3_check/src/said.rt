@@ -1,15 +1,17 @@
 //! What is said to the two sinks.
 
-ghost use Rattle.std.specs.Prelude.{◌≡◌, ◌++◌, true, false, IfOk};
+ghost use Rattle.std.specs.Prelude.{◌≡◌, ◌++◌, ◌^◌, ◌<◌, ◌≤◌, true, false, IfOk, option_copied};
 ghost use Rattle.std.specs.String.{string_bytes};
 ghost use Rattle.hex.specs.Hex.{encode_lower};
 ghost use Rattle.b3_lines.specs.Writing.{plain, tagged};
 ghost use Rattle.b3_check.specs.Sums.{complaint, digest_text, failed_report, is_bad_name, line_feed, name_report, shows_name};
-ghost use Rattle.b3_check.specs.Checks.{answer_as, mismatches, refusal, refused_report, unread_list_report, verdict_on, verdict_report, warning, warning_report};
+ghost use Rattle.b3_check.specs.Checks.{answer_as, err_report, line_reason, list_end, list_end_report, mismatches, refusal, refused_report, unless_silent, unread_list_report, verdict_on, verdict_report, verdict_tally, verdict_text, verdict_words, warning, warning_report};
+ghost use Rattle.b3_check.specs.Tallies.{counted, failed_of};
 ghost use Rattle.b3_check.specs.Tasks.{bytes_of, len_of, report_of};
 
 use crate::judging::{Answer, Verdict, judge};
-use crate::options::Form;
+use crate::options::{CheckOptions, Form};
+use crate::shelf::NoContent;
 use crate::tally::Tally;
 use b3_lines::{Line, LineFault, shown_name, write_line, write_tagged};
 use std::alloc::{AllocError, Global};
@@ -30,76 +32,114 @@ impl Said {
         Ok(Said {
             out: Vec::new(alloc),
             err: complaint(alloc, name, why)?,
-            tally: Tally::one_failed(),
+            tally: Tally::one_unreadable(),
         })
     }
 
     /// A list cannot be read.
-    pub fn unread_list(alloc: Global, name: &str) -> Result<Said, AllocError>
-        ensures { IfOk result (λ said. report_of said ≡ unread_list_report name.now) }
+    pub fn unread_list(
+        alloc: Global,
+        options: &CheckOptions,
+        name: &str,
+    ) -> Result<Said, AllocError>
+        ensures { IfOk result (λ said. report_of said ≡ unread_list_report options.now name.now) }
     {
-        Ok(Said {
-            out: Vec::new(alloc),
-            err: complaint(alloc, name, "cannot read")?,
-            tally: Tally::one_list(),
-        })
+        let text = complaint(alloc, name, "cannot read")?;
+        Ok(Said::on_err(alloc, options, text, Tally::one_list()))
     }
 
-    /// The line of this number is refused.
-    pub fn refused(alloc: Global, number: u64, fault: LineFault) -> Result<Said, AllocError>
-        ensures { IfOk result (λ said. report_of said ≡ refused_report number fault) }
+    /// What is said of a list after its lines, in which this was counted.
+    pub fn list_end(
+        alloc: Global,
+        options: &CheckOptions,
+        name: &str,
+        tally: &Tally,
+    ) -> Result<Said, AllocError>
+        ensures said { IfOk result (λ said. report_of said ≡ list_end_report options.now name.now tally.now) }
+        ensures one { IfOk result (λ said. counted said.tally ≤ 1) }
     {
-        Ok(Said {
-            out: Vec::new(alloc),
-            err: refusal(alloc, number, fault.reason())?,
-            tally: Tally::one_failed(),
-        })
+        let is_unverified = options.ignore_missing && tally.is_unverified();
+        let has_no_line = options.strict && tally.has_no_line();
+        let mut text = Vec::new(alloc);
+        if is_unverified {
+            text = complaint(alloc, name, "no file was verified")?;
+        }
+        if has_no_line {
+            text.extend_from_slice(complaint(alloc, name, "no check line found")?.as_slice())?;
+        }
+        let counted = if is_unverified || has_no_line {
+            Tally::one_list()
+        } else {
+            Tally::none()
+        };
+        Ok(Said::on_err(alloc, options, text, counted))
     }
 
-    /// How many lines failed, if any.
-    pub fn warning(alloc: Global, failed: u64) -> Result<Said, AllocError>
-        ensures { IfOk result (λ said. report_of said ≡ warning_report failed) }
+    // A text for the error output alone, if there is to be any text.
+    fn on_err(alloc: Global, options: &CheckOptions, text: Vec<u8>, tally: Tally) -> Said
+        ensures { report_of result ≡ err_report options.now text.items tally }
     {
-        Ok(Said {
+        Said {
             out: Vec::new(alloc),
-            err: warning(alloc, failed)?,
-            tally: Tally::none(),
-        })
+            err: unless_silent(alloc, options, text),
+            tally,
+        }
     }
 
-    /// The name of a line has this digest, or cannot be read.
+    /// The line of this number of a list is refused.
+    pub fn refused(
+        alloc: Global,
+        options: &CheckOptions,
+        list: &str,
+        number: u64,
+        fault: LineFault,
+    ) -> Result<Said, AllocError>
+        ensures { IfOk result (λ said. report_of said ≡ refused_report options.now list.now number fault) }
+    {
+        let text = refusal(alloc, options, list, number, fault.reason())?;
+        Ok(Said::on_err(alloc, options, text, Tally::one_malformed()))
+    }
+
+    /// How many names and lines failed, if any.
+    pub fn warning(alloc: Global, options: &CheckOptions, tally: &Tally) -> Result<Said, AllocError>
+        requires { failed_of tally.now < 2 ^ 64 }
+        ensures { IfOk result (λ said. report_of said ≡ warning_report options.now tally.now) }
+    {
+        let text = warning(alloc, tally.failed())?;
+        Ok(Said::on_err(alloc, options, text, Tally::none()))
+    }
+
+    /// The name of a line has this digest, or none for this reason.
     pub fn of_line(
         alloc: Global,
-        quiet: bool,
+        options: &CheckOptions,
         line: &Line,
-        digest: Option<&[u8]>,
+        digest: Result<&[u8], NoContent>,
     ) -> Result<Said, AllocError>
         requires { len_of digest ≡ 32 }
-        ensures { IfOk result (λ said. report_of said ≡ verdict_report quiet (string_bytes line.now.shown)
+        ensures { IfOk result (λ said. report_of said ≡ verdict_report options.now (string_bytes line.now.shown)
             (verdict_on line.now.digest (bytes_of digest.entry))) }
     {
         let verdict = judge(line, &answer(digest));
+        let text = verdict_text(alloc, options, line.shown.as_str(), verdict)?;
         Ok(Said {
-            out: verdict_line(alloc, quiet, line.shown.as_str(), verdict)?,
+            out: unless_silent(alloc, options, text),
             err: Vec::new(alloc),
-            tally: match verdict {
-                Verdict::Good => Tally::one_ok(),
-                Verdict::Differs | Verdict::Unreadable => Tally::one_failed(),
-            },
+            tally: verdict_tally(options, verdict),
         })
     }
 
-    /// A name has this digest, or cannot be read.
+    /// A name has this digest, or none for this reason.
     pub fn of_name(
         alloc: Global,
         form: Form,
         name: &str,
-        digest: Option<&[u8]>,
+        digest: Result<&[u8], NoContent>,
     ) -> Result<Said, AllocError>
         requires { shows_name form ≡ true → is_bad_name name.now ≡ false }
         ensures { IfOk result (λ said. report_of said ≡ name_report form name.now (bytes_of digest.entry)) }
     {
-        let Some(digest) = digest else {
+        let Ok(digest) = digest else {
             return Said::failed(alloc, name, "cannot read");
         };
         Ok(Said {
@@ -174,55 +214,111 @@ fn complaint(alloc: Global, name: &str, why: &str) -> Result<Vec<u8>, AllocError
     Ok(text)
 }
 
-// The answer to the name of a line, by its digest, if it has one.
-fn answer(digest: Option<&[u8]>) -> Answer
+// The answer to the name of a line, by its digest, or by why it has none.
+fn answer(digest: Result<&[u8], NoContent>) -> Answer
     requires { len_of digest ≡ 32 }
     ensures { result ≡ answer_as (bytes_of digest.entry) }
 {
-    let Some(bytes) = digest else {
-        return Answer::CannotRead;
+    let bytes = match digest {
+        Ok(bytes) => bytes,
+        Err(NoContent::Missing) => return Answer::Missing,
+        Err(NoContent::CannotRead) => return Answer::CannotRead,
     };
     let mut digest = [0; 32];
     digest.copy_from_slice(bytes);
     Answer::Digest(digest)
 }
 
-// What is said of a line, by its verdict.
-fn verdict_line(
+// The same text, but none where the status alone is to tell.
+fn unless_silent(alloc: Global, options: &CheckOptions, text: Vec<u8>) -> Vec<u8>
+    ensures { result.items ≡ unless_silent options.now text.items }
+{
+    if options.status {
+        return Vec::new(alloc);
+    }
+    text
+}
+
+// What is written of a line, by its verdict.
+fn verdict_text(
     alloc: Global,
-    quiet: bool,
+    options: &CheckOptions,
     shown: &str,
     verdict: Verdict,
 ) -> Result<Vec<u8>, AllocError>
-    ensures { IfOk result (λ text. text.items ≡ (verdict_report quiet shown.now verdict).out) }
+    ensures { IfOk result (λ text. text.items ≡ verdict_text options.now shown.now verdict) }
 {
-    let words = match verdict {
-        Verdict::Good if quiet => return Ok(Vec::new(alloc)),
-        Verdict::Good => ": OK\n",
-        Verdict::Differs => ": FAILED\n",
-        Verdict::Unreadable => ": FAILED (cannot read)\n",
+    let Some(words) = verdict_words(options, verdict) else {
+        return Ok(Vec::new(alloc));
     };
-    let mut text = Vec::with_capacity(alloc, shown.len().saturating_add(words.len()))?;
+    let len = shown.len().saturating_add(words.len()).saturating_add(1);
+    let mut text = Vec::with_capacity(alloc, len)?;
     text.extend_from_slice(shown.as_bytes())?;
     text.extend_from_slice(words.as_bytes())?;
-    Ok(text)
-}
-
-// What is said of a line that is refused.
-fn refusal(alloc: Global, number: u64, reason: &str) -> Result<Vec<u8>, AllocError>
-    ensures { IfOk result (λ text. text.items ≡ refusal number reason.now) }
-{
-    let number = number.to_string(alloc)?;
-    let mut text = Vec::new(alloc);
-    text.extend_from_slice(b"b3sum: line ")?;
-    text.extend_from_slice(number.as_bytes())?;
-    text.extend_from_slice(b": ")?;
-    text.extend_from_slice(reason.as_bytes())?;
     text.extend_from_slice(b"\n")?;
     Ok(text)
 }
 
-// What is said where so many lines failed.
+// The words of a verdict, if anything is said.
+fn verdict_words(options: &CheckOptions, verdict: Verdict) -> Option<&'static str>
+    ensures { option_copied result ≡ verdict_words options.now verdict }
+{
+    match verdict {
+        Verdict::Good if options.quiet => None,
+        Verdict::Missing if options.ignore_missing => None,
+        Verdict::Good => Some(": OK"),
+        Verdict::Differs => Some(": FAILED"),
+        Verdict::Missing | Verdict::Unreadable => Some(": FAILED (cannot read)"),
+    }
+}
+
+// What is counted of a line, by its verdict.
+fn verdict_tally(options: &CheckOptions, verdict: Verdict) -> Tally
+    ensures { result ≡ verdict_tally options.now verdict }
+{
+    match verdict {
+        Verdict::Good => Tally::one_ok(),
+        Verdict::Differs => Tally::one_differing(),
+        Verdict::Missing if options.ignore_missing => Tally::one_missing(),
+        Verdict::Missing | Verdict::Unreadable => Tally::one_unreadable(),
+    }
+}
+
+// What is said of a line of a list that is refused.
+fn refusal(
+    alloc: Global,
+    options: &CheckOptions,
+    list: &str,
+    number: u64,
+    reason: &str,
+) -> Result<Vec<u8>, AllocError>
+    ensures { IfOk result (λ text. text.items ≡ refusal options.now list.now number reason.now) }
+{
+    let why = line_reason(alloc, number, reason)?;
+    if options.warn {
+        return complaint(alloc, list, why.as_str());
+    }
+    let mut text = Vec::new(alloc);
+    text.extend_from_slice(b"b3sum: ")?;
+    text.extend_from_slice(why.as_bytes())?;
+    text.extend_from_slice(b"\n")?;
+    Ok(text)
+}
+
+// Why the line of this number is refused.
+fn line_reason(alloc: Global, number: u64, reason: &str) -> Result<String, AllocError>
+    ensures { IfOk result (λ text. string_bytes text ≡ line_reason number reason.now) }
+{
+    let number = number.to_string(alloc)?;
+    let mut text = String::new(alloc);
+    text.push_str("line ")?;
+    text.push_str(number.as_str())?;
+    text.push_str(": ")?;
+    text.push_str(reason)?;
+    Ok(text)
+}
+
+// What is said where so many names and lines failed.
 fn warning(alloc: Global, failed: u64) -> Result<Vec<u8>, AllocError>
     ensures { IfOk result (λ text. text.items ≡ warning failed) }
 {
@@ -238,7 +334,7 @@ fn warning(alloc: Global, failed: u64) -> Result<Vec<u8>, AllocError>
     Ok(text)
 }
 
-// The words behind the number of lines that failed.
+// The words behind the number of names and lines that failed.
 fn mismatches(failed: u64) -> &'static str
     ensures { result.now ≡ mismatches failed }
 {

@@ -1,14 +1,24 @@
-ghost use Rattle.std.specs.Prelude.{◌≡◌, ℕ, ◌+◌, ◌-◌, ◌^◌, ◌<◌, ◌≤◌, ◌&&◌, Bool, false, IsTrue, List, take, length, Option, IsSome, IsOk, IsErr, OnOk, IfOk, IfSome, drop, is_ok, is_err, if◌then◌else◌};
-ghost use Rattle.b3_check.specs.Contents.{Contents, Gives, HasContent, IsMissing};
+ghost use Rattle.std.specs.Prelude.{◌≡◌, ℕ, ◌+◌, ◌-◌, ◌^◌, ◌<◌, ◌≤◌, ◌&&◌, Bool, false, IsTrue, List, take, length, Option, IsSome, IsOk, OnOk, IfOk, IfErr, IfSome, drop, is_ok, is_err, if◌then◌else◌};
+ghost use Rattle.b3_check.specs.Contents.{Contents, Gives, HasContent, LacksContent};
 
-/// A name cannot be read, or the rest of it cannot.
+/// Why a name gives no content.
+#[derive(Clone, Copy, Debug, PartialEq, Eq)]
+pub enum NoContent {
+    /// No such name is there.
+    Missing,
+    /// It cannot be read.
+    CannotRead,
+}
+
+/// The rest of a file cannot be read.
 #[derive(Clone, Copy, Debug, PartialEq, Eq)]
 pub struct CannotRead;
 
 /// Named files, of which one at a time is read from its beginning to its end.
 ///
-/// A shelf counts its failures. It may tell its contents, and then gives just these; and it may tell
-/// besides that it fails at a name that is not there and nowhere else.
+/// A shelf counts its failures. It may tell its contents, and then gives just these, and says of no name
+/// that is there that it is missing; and it may tell besides that it fails at a name that is not there and
+/// nowhere else.
 pub trait Shelf {
     /// How many calls have failed.
     ghost failures: { Self → ℕ };
@@ -26,12 +36,12 @@ pub trait Shelf {
     ghost left: { Self → List ℕ };
 
     /// Puts the shelf at the beginning of the file of this name.
-    fn begin(&mut self, name: &str) -> Result<(), CannotRead>
+    fn begin(&mut self, name: &str) -> Result<(), NoContent>
         requires { failures self.old < 2 ^ 64 - 1 }
         ensures count { failures self.new ≡ failures self.old + (if is_err result then 1 else 0) }
         ensures begun { is_begun self.new ≡ is_ok result }
         ensures content { OnOk result (HasContent (told self.old) name.now (left self.new)) }
-        ensures sure { IsErr result → IsTrue (is_sure self.old) → IsMissing (told self.old) name.now }
+        ensures why { IfErr result (LacksContent (told self.old) (is_sure self.old) name.now) }
         ensures told { told self.new ≡ told self.old }
         ensures still_sure { is_sure self.new ≡ is_sure self.old };
 

@@ -48,8 +48,8 @@ pub fn run_sum<R: Threads + Wait + Sync, S: Shelf + Send + Sync, O: Sink, E: Sin
     requires out_failures { O.failures out.old < 2 ^ 63 }
     requires err_failures { E.failures err.old < 2 ^ 63 }
 
-    // The texts and the tally are those of one list of answers, as many of them CannotRead as the
-    // shelf's count rose.
+    // The texts and the tally are those of one list of answers, in which as many names were not read as
+    // the shelf's count rose.
     ensures ok { IfOk result (λ tally. Ran (sum_script options.now (map string_bytes names.now))
         (scene S.Shelf O.Sink E.Sink shelf.old out.old err.old)
         (scene S.Shelf O.Sink E.Sink shelf.new out.new err.new) tally) }
@@ -126,8 +126,8 @@ fn find_mode<S: Shelf + Send + Sync, O: Sink, E: Sink>(
         KeyChoice::Plain => Ok(Mode::hash()),
         KeyChoice::Derive(context) => Ok(derive_mode(context.as_str())),
         KeyChoice::Keyed => match desk.read_key() {
-            Some(read) => read.mode(),
-            None => Err(RunFault::ReadFault),
+            Ok(read) => read.mode(),
+            Err(_) => Err(RunFault::ReadFault),
         },
     }
 }

@@ -179,7 +179,10 @@ impl<'c, R: Threads + Wait + Sync, G: Gate + Sync> Worker<'c, R, G> {
             node,
             self.limits,
         )?;
-        let digest = whole.then_some(self.digester.digest());
+        let digest = match whole {
+            Ok(()) => Ok(self.digester.digest()),
+            Err(why) => Err(why),
+        };
         Ok(subject.said(self.alloc, digest)?)
     }
 }

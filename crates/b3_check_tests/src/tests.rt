@@ -17,6 +17,7 @@ mod random;
 mod recording;
 mod report;
 mod slow_names;
+mod strictness;
 mod sums;
 mod windows;
 mod workers;
@@ -35,8 +36,28 @@ const KEYED_EMPTY: &str = "92b2b75604ed3c761f9d6f62392c8a9227ad0ea3f09573e783f14
 // The digest of one byte 00.
 const ONE_BYTE: &str = "2d3adedff11b61f14c886e35afa036736dcd87a74d27b5c1510225d0f592e213";
 
-const fn tally(ok: u64, failed: u64, lists: u64) -> Tally {
-    Tally { ok, failed, lists }
+// So many names that are ok, and that cannot be read or have no line, and so many lists that failed.
+const fn tally(ok: u64, unreadable: u64, lists: u64) -> Tally {
+    Tally {
+        ok,
+        differing: 0,
+        unreadable,
+        malformed: 0,
+        missing: 0,
+        lists,
+    }
+}
+
+// So many lines that are ok, whose names differ or cannot be read, and that are malformed.
+const fn lines_tally(ok: u64, differing: u64, unreadable: u64, malformed: u64) -> Tally {
+    Tally {
+        ok,
+        differing,
+        unreadable,
+        malformed,
+        missing: 0,
+        lists: 0,
+    }
 }
 
 // A check line of 32 bytes, without a key.
@@ -64,6 +85,10 @@ fn check_options(quiet: bool, largest: u64) -> CheckOptions
 {
     CheckOptions {
         quiet,
+        ignore_missing: false,
+        status: false,
+        strict: false,
+        warn: false,
         workers: 4,
         turns: 1_000,
         largest,

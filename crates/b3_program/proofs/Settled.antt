@@ -23,11 +23,6 @@ excluded-some true (Some option) refusal given none = cc none
 excluded-some true None refusal given none = cc given
 excluded-some false option refusal given none = cc given
 
--- a refusal that is not told does not hold
-not-past : (b : Bool) → (if b then Some PastEnd else None) ≡ None → b ≡ false
-not-past true none = cc none
-not-past false none = refl
-
 -- words that are not refused ask for bytes of the output
 pub in_output_from_none : (words : Words) → refusal_for words ≡ None
     → unwrap_or words.seek 0 + unwrap_or words.length 32 ≤ 2 ^ 64 - 1
@@ -41,7 +36,7 @@ in_output_from_none words none =
     let five = past_first (words.keyed && hashes_input words) (Some KeyedWithoutFiles) _ (λ _ e. cc e) four in
     let six = past_first _ _ _ (excluded-some words.tag tagged TagExcluded) five in
     ltb-false (2 ^ 64 - 1) (unwrap_or words.seek 0 + unwrap_or words.length 32)
-    (not-past (seeks_past_end words) six)
+    (past-false (seeks_past_end words) (Some PastEnd) _ (λ e. cc e) six)
 
 -- and raw output of one file at most
 pub few_from_none : (words : Words) → refusal_for words ≡ None → (words.raw && nat_lt 1 (vec_len words.files)) ≡ false

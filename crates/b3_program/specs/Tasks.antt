@@ -41,6 +41,10 @@ sum_options words = record {
 abbrev pub check_options : Words → CheckOptions
 check_options words = record {
   quiet = words.quiet;
+  ignore_missing = words.ignore_missing;
+  status = words.status;
+  strict = words.strict;
+  warn = words.warn;
   workers = workers_of words.num_threads;
   turns = 2 ^ 40;
   largest = 2 ^ 30;

@@ -4,7 +4,7 @@ use Rattle.std.specs.Global.{Global}
 use Rattle.std.specs.List.{list_any}
 use Rattle.std.specs.Option.{option_map}
 use Rattle.b3_program.specs.declared.usage.Usage.{Usage}
-use Rattle.b3_program.specs.declared.usage.Usage.TheVariants.{CheckExcludes, TwoKeys, QuietAlone, RawOne, KeyNeedsFiles, TagExcludes, SeekPastEnd}
+use Rattle.b3_program.specs.declared.usage.Usage.TheVariants.{CheckExcludes, TwoKeys, QuietAlone, RawOne, KeyNeedsFiles, TagExcludes, SeekPastEnd, IgnoreMissingAlone, StatusAlone, StrictAlone, WarnAlone}
 use Rattle.b3_program.specs.declared.words.Words.{Words}
 
 -- a refusal, with the name of the option that a check excludes
@@ -16,6 +16,10 @@ pub data Refusal : Type 0 where
   KeyedWithoutFiles : Refusal
   TagExcluded : List ℕ → Refusal
   PastEnd : Refusal
+  IgnoreMissingWithoutCheck : Refusal
+  StatusWithoutCheck : Refusal
+  StrictWithoutCheck : Refusal
+  WarnWithoutCheck : Refusal
 
 abbrev pub refusal_of : Usage → Refusal
 refusal_of (CheckExcludes option) = CheckExcluded option.now
@@ -25,6 +29,10 @@ refusal_of RawOne = RawOfMany
 refusal_of KeyNeedsFiles = KeyedWithoutFiles
 refusal_of (TagExcludes option) = TagExcluded option.now
 refusal_of SeekPastEnd = PastEnd
+refusal_of IgnoreMissingAlone = IgnoreMissingWithoutCheck
+refusal_of StatusAlone = StatusWithoutCheck
+refusal_of StrictAlone = StrictWithoutCheck
+refusal_of WarnAlone = WarnWithoutCheck
 
 -- the text of a refusal, without a line feed
 abbrev pub refusal_text : Refusal → List ℕ
@@ -35,6 +43,10 @@ refusal_text RawOfMany = codes "b3sum: --raw takes one input"
 refusal_text KeyedWithoutFiles = codes "b3sum: --keyed needs files"
 refusal_text (TagExcluded option) = codes "b3sum: --tag cannot be used with " ++ option
 refusal_text PastEnd = codes "b3sum: --seek and --length pass the end of the output"
+refusal_text IgnoreMissingWithoutCheck = codes "b3sum: --ignore-missing needs --check"
+refusal_text StatusWithoutCheck = codes "b3sum: --status needs --check"
+refusal_text StrictWithoutCheck = codes "b3sum: --strict needs --check"
+refusal_text WarnWithoutCheck = codes "b3sum: --warn needs --check"
 
 -- the options that a check excludes, and whether each is given
 abbrev pub excluded_by_check : Words → List (Bool × List ℕ)
@@ -70,13 +82,23 @@ hashes_input words =
 abbrev pub seeks_past_end : Words → Bool
 seeks_past_end words = nat_lt (2 ^ 64 - 1) (unwrap_or words.seek 0 + unwrap_or words.length 32)
 
--- the first refusal that holds of what is to be written
+-- the first refusal that holds of words for a check, where nothing is checked
+abbrev pub refusal_without_check : Words → Option Refusal
+refusal_without_check words =
+    if words.ignore_missing then Some IgnoreMissingWithoutCheck
+    else if words.status then Some StatusWithoutCheck
+    else if words.strict then Some StrictWithoutCheck
+    else if words.warn then Some WarnWithoutCheck
+    else None
+
+-- the first refusal that holds of what is to be written, and of words that only a check takes
 abbrev pub refusal_for_output : Words → Option Refusal
 refusal_for_output words =
     if words.tag && is_some (first_given (excluded_by_tag words))
     then option_map TagExcluded (first_given (excluded_by_tag words))
     else if seeks_past_end words then Some PastEnd
-    else None
+    else if words.check then None
+    else refusal_without_check words
 
 -- the first refusal that holds of the words
 abbrev pub refusal_for : Words → Option Refusal

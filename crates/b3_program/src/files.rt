@@ -1,11 +1,13 @@
-ghost use Rattle.std.specs.Prelude.{◌≡◌, ◌≢◌, ◌↔◌, ◌+◌, ◌-◌, ◌^◌, ◌<◌, ◌≤◌, ◌&&◌, [], true, false, None, IsTrue, IsOk, OnOk, OnErr, IfOk, codes, length, take, is_err, is_ok, if◌then◌else◌};
+ghost use Rattle.std.specs.Prelude.{◌≡◌, ◌≢◌, ◌↔◌, ◌+◌, ◌-◌, ◌^◌, ◌<◌, ◌≤◌, ◌&&◌, [], true, false, None, Err, IsTrue, IsOk, OnOk, OnErr, IfOk, codes, length, take, is_err, is_ok, if◌then◌else◌};
 ghost use Rattle.std.specs.Io.KnownBytes.{Consumes, IsAtEnd};
-ghost use Rattle.b3_program.specs.Files.{is_open};
+ghost use Rattle.std.specs.IoError.{error_kind};
+ghost use Rattle.b3_check.specs.declared.shelf.NoContent.TheVariants.{Missing};
+ghost use Rattle.b3_program.specs.Files.{IsOfMissing, is_open};
 
 use crate::retrying::{fill_at, read_retrying};
-use b3_check::{CannotRead, Shelf};
+use b3_check::{CannotRead, NoContent, Shelf};
 use std::fs::{File, OpenFile};
-use std::io::Read;
+use std::io::{self, ErrorKind, Read};
 use std::os::unix::fs::FileExt;
 use std::rt::Files;
 
@@ -51,7 +53,7 @@ impl<'a, F: Files, I: Read> FileShelf<'a, F, I> {
     }
 
     // A call fails: no file is begun.
-    fn fail(&mut self) -> CannotRead
+    fn fail(&mut self)
         requires { self.old.failures < 2 ^ 64 - 1 }
         ensures count { self.new.failures ≡ self.old.failures + 1 }
         ensures closed { is_open self.new.source ≡ false }
@@ -60,7 +62,17 @@ impl<'a, F: Files, I: Read> FileShelf<'a, F, I> {
     {
         self.source = Source::Nothing;
         self.failures += 1;
-        CannotRead
+    }
+}
+
+// Why a name that cannot be opened gives no content: it is missing where no such name is there, and where what
+// should be a folder on its way is none.
+fn why_not(error: &io::Error) -> NoContent
+    ensures { (result ≡ Missing) ↔ IsOfMissing (error_kind error.now) }
+{
+    match error.kind() {
+        ErrorKind::NotFound | ErrorKind::NotADirectory => NoContent::Missing,
+        _ => NoContent::CannotRead,
     }
 }
 
@@ -80,13 +92,14 @@ where
 
     ghost left = { λ _. [] };
 
-    fn begin(&mut self, name: &str) -> Result<(), CannotRead>
+    fn begin(&mut self, name: &str) -> Result<(), NoContent>
         requires { self.old.failures < 2 ^ 64 - 1 }
         ensures count { self.new.failures ≡ self.old.failures + (if is_err result then 1 else 0) }
         ensures begun { is_open self.new.source ≡ is_ok result }
 
-        // The input can be begun once, and no other name takes it.
+        // The input can be begun once, and is never missing; no other name takes it.
         ensures input { name.now ≡ codes "-" → (IsOk result ↔ (self.old.is_input_taken ≡ false)) }
+        ensures input_there { name.now ≡ codes "-" → result ≢ Err Missing }
         ensures input_taken { name.now ≡ codes "-" → self.new.is_input_taken ≡ true }
         ensures other { name.now ≢ codes "-" → self.new.is_input_taken ≡ self.old.is_input_taken }
         ensures unread { self.new.input ≡ self.old.input }
@@ -95,14 +108,18 @@ where
         self.source = Source::Nothing;
         self.given = 0;
         if name != INPUT_NAME {
-            let Ok(file) = File::open(self.files, name) else {
-                return Err(self.fail());
-            };
-            self.source = Source::Opened(file);
+            match File::open(self.files, name) {
+                Ok(file) => self.source = Source::Opened(file),
+                Err(error) => {
+                    self.fail();
+                    return Err(why_not(&error));
+                }
+            }
             return Ok(());
         }
         if self.is_input_taken {
-            return Err(self.fail());
+            self.fail();
+            return Err(NoContent::CannotRead);
         }
         self.is_input_taken = true;
         self.source = Source::Input;
@@ -134,7 +151,10 @@ where
                 self.given = self.given.saturating_add(count as u64);
                 Ok(count)
             }
-            Err(_) => Err(self.fail()),
+            Err(_) => {
+                self.fail();
+                Err(CannotRead)
+            }
         }
     }
 

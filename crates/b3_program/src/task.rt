@@ -3,7 +3,7 @@ ghost use Rattle.std.specs.List.{list_any};
 ghost use Rattle.std.specs.Option.{option_map};
 ghost use Rattle.b3_program.specs.Tasks.{check_options, form_of, key_of, sum_options, task_for, workers_of};
 ghost use Rattle.b3_program.specs.declared.task.Task.TheVariants.{Sum};
-ghost use Rattle.b3_program.specs.Usages.{excluded_by_check, excluded_by_tag, first_given, hashes_input, is_input, refusal_for, refusal_for_output, refusal_of, seeks_past_end};
+ghost use Rattle.b3_program.specs.Usages.{excluded_by_check, excluded_by_tag, first_given, hashes_input, is_input, refusal_for, refusal_for_output, refusal_of, refusal_without_check, seeks_past_end};
 
 use crate::usage::Usage;
 use crate::words::Words;
@@ -73,7 +73,7 @@ fn refusal(words: &Words) -> Option<Usage>
     refusal_of_output(words)
 }
 
-// The first refusal that holds of what is to be written.
+// The first refusal that holds of what is to be written, and of words that only a check takes.
 fn refusal_of_output(words: &Words) -> Option<Usage>
     ensures { option_map refusal_of result ≡ refusal_for_output words.now }
 {
@@ -85,7 +85,27 @@ fn refusal_of_output(words: &Words) -> Option<Usage>
     if seeks_past_end(words) {
         return Some(Usage::SeekPastEnd);
     }
-    None
+    if words.check {
+        return None;
+    }
+    refusal_without_check(words)
+}
+
+// The first refusal that holds of words for a check, where nothing is checked.
+fn refusal_without_check(words: &Words) -> Option<Usage>
+    ensures { option_map refusal_of result ≡ refusal_without_check words.now }
+{
+    if words.ignore_missing {
+        Some(Usage::IgnoreMissingAlone)
+    } else if words.status {
+        Some(Usage::StatusAlone)
+    } else if words.strict {
+        Some(Usage::StrictAlone)
+    } else if words.warn {
+        Some(Usage::WarnAlone)
+    } else {
+        None
+    }
 }
 
 // The first option that is given and goes with no check.
@@ -155,6 +175,10 @@ fn check_options(words: &Words) -> CheckOptions
 {
     CheckOptions {
         quiet: words.quiet,
+        ignore_missing: words.ignore_missing,
+        status: words.status,
+        strict: words.strict,
+        warn: words.warn,
         workers: workers(words.num_threads),
         turns: TURNS,
         largest: LARGEST,

@@ -17,6 +17,14 @@ pub enum Usage {
     TagExcludes(&'static str),
     /// Bytes behind the end of the output.
     SeekPastEnd,
+    /// `--ignore-missing` where nothing is checked.
+    IgnoreMissingAlone,
+    /// `--status` where nothing is checked.
+    StatusAlone,
+    /// `--strict` where nothing is checked.
+    StrictAlone,
+    /// `--warn` where nothing is checked.
+    WarnAlone,
 }
 
 impl Usage {
@@ -37,6 +45,10 @@ impl Usage {
                 let text = "b3sum: --seek and --length pass the end of the output";
                 (text, "")
             }
+            Usage::IgnoreMissingAlone => ("b3sum: --ignore-missing needs --check", ""),
+            Usage::StatusAlone => ("b3sum: --status needs --check", ""),
+            Usage::StrictAlone => ("b3sum: --strict needs --check", ""),
+            Usage::WarnAlone => ("b3sum: --warn needs --check", ""),
         }
     }
 }

@@ -22,6 +22,14 @@ pub struct Words {
     pub tag: bool,
     /// Nothing is said of files that are OK.
     pub quiet: bool,
+    /// Missing files are passed over.
+    pub ignore_missing: bool,
+    /// Nothing is written by a check.
+    pub status: bool,
+    /// A list without a check line fails.
+    pub strict: bool,
+    /// The list of each malformed line is named.
+    pub warn: bool,
     /// How many threads hash.
     pub num_threads: Option<u16>,
     /// The files, as they were given.

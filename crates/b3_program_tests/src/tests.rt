@@ -1,6 +1,6 @@
 // The shelf of real files and the sinks over writers.
 
-use b3_check::{CannotRead, Shelf, Sink, SinkFailed};
+use b3_check::{CannotRead, NoContent, Shelf, Sink, SinkFailed};
 use b3_program::{FileShelf, OutputSink};
 use std::alloc::{AllocError, Allocator};
 use std::fs::{Metadata, OpenFile, OpenOptions};
@@ -66,12 +66,15 @@ fn the_input_is_begun_once_and_gives_its_bytes(rt: HostRuntime) {
     let mut shelf = FileShelf::new(&rt, b"four".as_slice());
     let mut room = [0; 8];
     assert_eq!(rt; shelf.read(&mut room), Ok(0));
-    assert_eq!(rt; shelf.begin("a file that is not there"), Err(CannotRead));
+    assert_eq!(rt;
+        shelf.begin("a file that is not there"),
+        Err(NoContent::Missing)
+    );
     assert_eq!(rt; shelf.begin("-"), Ok(()));
     assert_eq!(rt; shelf.read(&mut room), Ok(4));
     assert_eq!(rt; room[..4], b"four"[..]);
     assert_eq!(rt; shelf.read(&mut room), Ok(0));
-    assert_eq!(rt; shelf.begin("-"), Err(CannotRead));
+    assert_eq!(rt; shelf.begin("-"), Err(NoContent::CannotRead));
     assert_eq!(rt; shelf.read(&mut room), Ok(0));
 }
 
@@ -219,7 +222,7 @@ fn the_named_file_is_opened(rt: HostRuntime) -> Result<(), AllocError> {
         let files = OnePath { path };
         let mut shelf = FileShelf::new(&files, b"".as_slice());
         assert_eq!(&rt; shelf.begin(path), Ok(()), "{path}");
-        assert_eq!(&rt; shelf.begin("another"), Err(CannotRead), "{path}");
+        assert_eq!(&rt; shelf.begin("another"), Err(NoContent::Missing), "{path}");
     }
     Ok(())
 }
@@ -230,6 +233,20 @@ fn a_folder_is_no_file(rt: HostRuntime) {
     let mut room = [0; 8];
     let is_begun = shelf.begin("/").is_ok();
     assert_eq!(rt; shelf.read(&mut room).is_err(), is_begun);
+}
+
+// What should be a folder on its way is a file; and a name that is too long is no missing one.
+#[test]
+fn a_name_behind_a_file_is_missing(rt: HostRuntime) -> Result<(), AllocError> {
+    let mut shelf = FileShelf::new(&rt, b"".as_slice());
+    assert_eq!(rt; shelf.begin("/proc/self/exe/"), Err(NoContent::Missing));
+    assert_eq!(rt; shelf.begin("/proc/self/exe/x"), Err(NoContent::Missing));
+    let mut long = String::new(rt.alloc());
+    for _ in 0..5_000 {
+        long.push_str("x")?;
+    }
+    assert_eq!(rt; shelf.begin(long.as_str()), Err(NoContent::CannotRead));
+    Ok(())
 }
 
 #[test]

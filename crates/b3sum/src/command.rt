@@ -11,11 +11,14 @@ Examples:
   b3sum *.tar > SUMS          write a list of digests
   b3sum --tag *.tar > SUMS    write it in tagged lines
   b3sum --check SUMS          check the files that a list names, in lines of both forms
+  b3sum --ignore-missing --check SUMS
+                              check those of them that are there
   b3sum --keyed FILE < KEY    write a digest keyed by the 32 bytes of KEY
   b3sum --seek 32 FILE        write the 32 bytes of output behind the digest
 
 The status is 0, or 1 where a file cannot be read, a digest differs, a line is
-malformed or the run is cut short, or 2 where the words are not taken.";
+malformed, a list fails as a whole or the run is cut short, or 2 where the words
+are not taken.";
 
 /// The program's options and files.
 pub fn command<'a>(alloc: Global) -> Result<Command<'a>, AllocError> {
@@ -26,18 +29,23 @@ pub fn command<'a>(alloc: Global) -> Result<Command<'a>, AllocError> {
         .version("0.1.0")
         .about("Writes BLAKE3 checksums, and checks them")
         .after_help(AFTER_HELP);
-    with_running(
-        with_output(with_hashing(with_checking(command, alloc)?, alloc)?, alloc)?,
-        alloc,
-    )?
-    .arg(files)
+    let command = with_checking(command, alloc)?;
+    let command = with_hashing(command, alloc)?;
+    let command = with_output(command, alloc)?;
+    with_running(command, alloc)?.arg(files)
 }
 
 // The options stand in groups, in the order in which `--help` has them: the prover's work grows with the square of the
 // options that one function adds.
 
 fn with_checking<'a>(command: Command<'a>, alloc: Global) -> Result<Command<'a>, AllocError> {
-    command.arg(check(alloc))?.arg(quiet(alloc))
+    command
+        .arg(check(alloc))?
+        .arg(quiet(alloc))?
+        .arg(ignore_missing(alloc))?
+        .arg(status(alloc))?
+        .arg(strict(alloc))?
+        .arg(warn(alloc))
 }
 
 fn with_hashing<'a>(command: Command<'a>, alloc: Global) -> Result<Command<'a>, AllocError> {
@@ -72,6 +80,39 @@ fn quiet<'a>(alloc: Global) -> Arg<'a> {
         "quiet",
         "With --check, say nothing of files that are OK",
     )
+}
+
+fn ignore_missing<'a>(alloc: Global) -> Arg<'a> {
+    flag(
+        alloc,
+        "ignore-missing",
+        "With --check, pass over files that are missing",
+    )
+}
+
+fn status<'a>(alloc: Global) -> Arg<'a> {
+    flag(
+        alloc,
+        "status",
+        "With --check, write nothing; the status alone tells",
+    )
+}
+
+fn strict<'a>(alloc: Global) -> Arg<'a> {
+    flag(
+        alloc,
+        "strict",
+        "With --check, fail where a list has no check line",
+    )
+}
+
+fn warn<'a>(alloc: Global) -> Arg<'a> {
+    flag(
+        alloc,
+        "warn",
+        "With --check, name the list of each malformed line",
+    )
+    .short('w')
 }
 
 fn keyed<'a>(alloc: Global) -> Arg<'a> {

@@ -35,6 +35,10 @@ pub fn read_words(alloc: Global, words: &[String]) -> Result<Words, Stop> {
         no_names: matches.get_flag("no-names"),
         tag: matches.get_flag("tag"),
         quiet: matches.get_flag("quiet"),
+        ignore_missing: matches.get_flag("ignore-missing"),
+        status: matches.get_flag("status"),
+        strict: matches.get_flag("strict"),
+        warn: matches.get_flag("warn"),
         num_threads: matches.get_one::<u16>("num-threads"),
         files,
     })

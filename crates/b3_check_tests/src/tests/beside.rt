@@ -4,7 +4,7 @@ ghost use Rattle.std.specs.Prelude.{◌≡◌, ◌^◌, ◌<◌, ◌≤◌, [], 
 
 use crate::tests::{EMPTY, check_options, joined, options, tally};
 use b3_board::OpenGate;
-use b3_check::{CannotRead, MemorySink, Shelf, run_check, run_sum};
+use b3_check::{CannotRead, MemorySink, NoContent, Shelf, run_check, run_sum};
 use std::alloc::Global;
 use std::process::Abort;
 use std::sync::Wait;
@@ -61,7 +61,7 @@ impl Shelf for MeetingShelf<'_> {
 
     ghost left = { λ _. [] };
 
-    fn begin(&mut self, name: &str) -> Result<(), CannotRead> {
+    fn begin(&mut self, name: &str) -> Result<(), NoContent> {
         self.rest = if name == "l" { self.list } else { &[] };
         Ok(())
     }

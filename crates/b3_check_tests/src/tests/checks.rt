@@ -4,7 +4,7 @@ ghost use Rattle.std.specs.Prelude.{◌≡◌, ◌^◌, ◌<◌, IfOk};
 ghost use Rattle.b3_check.specs.Options.{CanCheck};
 
 use crate::tests::devices::{OneByteShelf, OneByteSink};
-use crate::tests::{EMPTY, ONE_BYTE, check_options, joined, tally};
+use crate::tests::{EMPTY, ONE_BYTE, check_options, joined, lines_tally, tally};
 use b3_board::OpenGate;
 use b3_check::{
     Answer, CheckOptions, MemoryShelf, MemorySink, RunFault, Shelf, Sink, Tally, Verdict, judge,
@@ -61,8 +61,8 @@ fn right_and_wrong_and_malformed_lines(rt: HostRuntime) -> Result<(), Fail> {
         let mut err = MemorySink::new(rt.alloc());
         let asked = check_options(quiet, 1_000);
         let answer = check_one(&rt, rt.alloc(), &mut shelf, "l", &mut out, &mut err, &asked);
-        assert_eq!(rt; answer, Ok(tally(1, 2, 0)));
-        assert_eq!(rt; tally(1, 2, 0).status(), 1);
+        assert_eq!(rt; answer, Ok(lines_tally(1, 1, 0, 1)));
+        assert_eq!(rt; lines_tally(1, 1, 0, 1).status(), 1);
         assert_eq!(rt; out.bytes(), written.as_bytes());
         assert_eq!(rt; err.bytes(), THREE_COMPLAINTS);
     }
@@ -97,13 +97,13 @@ fn lists_of_one_line_or_none(rt: HostRuntime) -> Result<(), Fail> {
         (b"".as_slice(), tally(0, 0, 0), "", ""),
         (
             b"\n".as_slice(),
-            tally(0, 1, 0),
+            lines_tally(0, 0, 0, 1),
             "",
             "b3sum: line 1: empty line\n",
         ),
         (
             b"\xFF\xFE\n".as_slice(),
-            tally(0, 1, 0),
+            lines_tally(0, 0, 0, 1),
             "",
             "b3sum: line 1: not text\n",
         ),
@@ -119,7 +119,7 @@ fn lists_of_one_line_or_none(rt: HostRuntime) -> Result<(), Fail> {
         let answer = check_one(&rt, rt.alloc(), &mut shelf, "l", &mut out, &mut err, &asked);
         assert_eq!(rt; answer, Ok(counts));
         assert_eq!(rt; out.bytes(), written.as_bytes());
-        let warned = if counts.failed == 0 { "" } else { warning };
+        let warned = if counts.status() == 0 { "" } else { warning };
         assert_eq!(rt;
             err.bytes(),
             joined(rt.alloc(), &[complaint, warned])?.as_bytes()
@@ -160,7 +160,7 @@ fn lines_of_both_forms(rt: HostRuntime) -> Result<(), Fail> {
     shelf.put("x", b"\0")?;
     let asked = check_options(false, 1_000);
     let answer = check_one(&rt, rt.alloc(), &mut shelf, "l", &mut out, &mut err, &asked);
-    assert_eq!(rt; answer, Ok(tally(4, 4, 0)));
+    assert_eq!(rt; answer, Ok(lines_tally(4, 1, 1, 2)));
     let written = "e: OK\ne: OK\n\\a\\\\b: OK\n\\a\\\\b: FAILED\nx: OK\nz: FAILED (cannot read)\n";
     assert_eq!(rt; out.bytes(), written.as_bytes());
     let complaints = [
@@ -198,7 +198,11 @@ fn lists_one_after_the_other(rt: HostRuntime) -> Result<(), Fail> {
         &asked,
         &OpenGate,
     );
-    assert_eq!(rt; answer, Ok(tally(1, 3, 1)));
+    let counts = Tally {
+        lists: 1,
+        ..lines_tally(1, 0, 0, 3)
+    };
+    assert_eq!(rt; answer, Ok(counts));
     assert_eq!(rt; out.bytes(), b"e: OK\n".as_slice());
     let complaints = [
         "b3sum: line 1: empty line\n",
@@ -214,7 +218,7 @@ fn lists_one_after_the_other(rt: HostRuntime) -> Result<(), Fail> {
 #[test]
 fn a_list_may_have_as_many_bytes_as_a_file(rt: HostRuntime) -> Result<(), Fail> {
     for (feeds, expected) in [
-        (100usize, Ok(tally(0, 100, 0))),
+        (100usize, Ok(lines_tally(0, 0, 0, 100))),
         (101, Err(RunFault::EndlessInput)),
     ] {
         let mut shelf = MemoryShelf::new(rt.alloc());
@@ -253,5 +257,6 @@ fn a_line_is_judged_by_its_whole_digest(rt: HostRuntime) -> Result<(), Fail> {
     assert_eq!(rt; judge(&line, &Answer::Digest(line.digest)), Verdict::Good);
     assert_eq!(rt; judge(&line, &Answer::Digest(other)), Verdict::Differs);
     assert_eq!(rt; judge(&line, &Answer::CannotRead), Verdict::Unreadable);
+    assert_eq!(rt; judge(&line, &Answer::Missing), Verdict::Missing);
     Ok(())
 }

@@ -2,7 +2,7 @@
 
 ghost use Rattle.std.specs.Prelude.{◌≡◌, ℕ, [], false, true, None, Some};
 
-use b3_check::{CannotRead, Shelf, Sink, SinkFailed};
+use b3_check::{CannotRead, NoContent, Shelf, Sink, SinkFailed};
 use std::alloc::Global;
 
 /// Gives one byte a read of the same content under each name.
@@ -38,7 +38,7 @@ impl Shelf for OneByteShelf<'_> {
 
     ghost left = { λ _. [] };
 
-    fn begin(&mut self, _name: &str) -> Result<(), CannotRead> {
+    fn begin(&mut self, _name: &str) -> Result<(), NoContent> {
         self.place = 0;
         self.is_begun = true;
         Ok(())
@@ -140,7 +140,7 @@ impl Shelf for FailingShelf<'_> {
 
     ghost left = { λ _. [] };
 
-    fn begin(&mut self, _name: &str) -> Result<(), CannotRead> {
+    fn begin(&mut self, _name: &str) -> Result<(), NoContent> {
         self.place = 0;
         self.is_begun = true;
         Ok(())
@@ -201,7 +201,7 @@ impl Shelf for GrowingShelf<'_> {
 
     ghost left = { λ _. [] };
 
-    fn begin(&mut self, name: &str) -> Result<(), CannotRead> {
+    fn begin(&mut self, name: &str) -> Result<(), NoContent> {
         if name == "l" {
             self.rest = self.list;
         } else {

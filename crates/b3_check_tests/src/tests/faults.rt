@@ -5,7 +5,7 @@ ghost use Rattle.std.specs.Prelude.{◌≡◌, ◌≤◌, IfOk};
 use crate::tests::checks::{THREE_COMPLAINTS, check_one, three_lines};
 use crate::tests::devices::OneByteSink;
 use crate::tests::faulty_files::FaultyFiles;
-use crate::tests::{EMPTY, ONE_BYTE, check_options, joined, tally};
+use crate::tests::{EMPTY, ONE_BYTE, check_options, joined, lines_tally, tally};
 use b3_check::{MemoryShelf, MemorySink, RunFault, Tally};
 use std::process::Abort;
 use std::sync::Wait;
@@ -22,16 +22,16 @@ fn left_after(k: u64) -> (Tally, &'static [u8], &'static [u8]) {
     match k {
         1..=3 => (tally(0, 0, 1), b"", b"b3sum: l: cannot read\n"),
         4..=6 => (
-            tally(0, 3, 0),
+            lines_tally(0, 1, 1, 1),
             b"x: FAILED (cannot read)\ny: FAILED\n",
             b"b3sum: line 3: short line\nb3sum: WARNING: 3 computed checksums did NOT match\n",
         ),
         7 | 8 => (
-            tally(1, 2, 0),
+            lines_tally(1, 0, 1, 1),
             b"x: OK\ny: FAILED (cannot read)\n",
             THREE_COMPLAINTS,
         ),
-        _ => (tally(1, 2, 0), THREE_LINES, THREE_COMPLAINTS),
+        _ => (lines_tally(1, 1, 0, 1), THREE_LINES, THREE_COMPLAINTS),
     }
 }
 
@@ -62,7 +62,7 @@ fn an_output_that_fails_at_each_byte_in_turn(rt: HostRuntime) -> Result<(), Fail
         let expected = if taken < 16 {
             Err(RunFault::WriteFault)
         } else {
-            Ok(tally(1, 2, 0))
+            Ok(lines_tally(1, 1, 0, 1))
         };
         assert_eq!(rt; answer, expected);
         assert_eq!(rt; out.bytes.as_slice(), &THREE_LINES[..taken]);
@@ -81,7 +81,7 @@ fn an_error_output_that_fails_at_each_byte_in_turn(rt: HostRuntime) -> Result<()
         let expected = if taken < 77 {
             Err(RunFault::WriteFault)
         } else {
-            Ok(tally(1, 2, 0))
+            Ok(lines_tally(1, 1, 0, 1))
         };
         assert_eq!(rt; answer, expected);
         assert_eq!(rt; err.bytes.as_slice(), &THREE_COMPLAINTS[..taken]);

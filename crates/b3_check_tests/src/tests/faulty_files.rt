@@ -3,7 +3,7 @@
 ghost use Rattle.std.specs.Prelude.{◌≡◌, ◌≤◌, ◌&&◌, [], Some, false, if◌then◌else◌};
 ghost use Rattle.b3_check.specs.MemoryShelves.{shelf_contents, shelf_is_begun, shelf_left};
 
-use b3_check::{CannotRead, MemoryShelf, Shelf};
+use b3_check::{CannotRead, MemoryShelf, NoContent, Shelf};
 
 /// Files in memory. Once, after so many calls, a call fails.
 #[derive(Drop)]
@@ -54,14 +54,26 @@ impl Shelf for FaultyFiles {
 
     ghost left = { λ shelf. if shelf.is_begun then shelf_left shelf.files else [] };
 
-    fn begin(&mut self, name: &str) -> Result<(), CannotRead> {
+    fn begin(&mut self, name: &str) -> Result<(), NoContent> {
         self.is_begun = false;
-        if self.is_at_fault() || self.files.begin(name).is_err() {
+        if self.is_at_fault() {
             self.failures += 1;
-            return Err(CannotRead);
+            return Err(NoContent::CannotRead);
         }
-        self.is_begun = true;
-        Ok(())
+        match self.files.begin(name) {
+            Ok(()) => {
+                self.is_begun = true;
+                Ok(())
+            }
+            Err(NoContent::Missing) => {
+                self.failures += 1;
+                Err(NoContent::Missing)
+            }
+            Err(NoContent::CannotRead) => {
+                self.failures += 1;
+                Err(NoContent::CannotRead)
+            }
+        }
     }
 
     fn read(&mut self, room: &mut [u8]) -> Result<usize, CannotRead> {

@@ -5,7 +5,7 @@ ghost use Rattle.std.specs.Prelude.{◌≡◌, ◌^◌, ◌≤◌, length};
 use crate::tests::devices::OneByteSink;
 use crate::tests::lettered_files::{LetteredFiles, number_in};
 use crate::tests::workers::Yielding;
-use crate::tests::{check_options, options, pattern, tally};
+use crate::tests::{check_options, lines_tally, options, pattern, tally};
 use b3_board::{Gate, OpenGate};
 use b3_check::{MemorySink, RunFault, Tally, run_check, run_sum};
 use b3_hash::hash;
@@ -253,10 +253,7 @@ fn a_list_of_names(rt: HostRuntime) -> Result<(), Fail> {
         &check_options(false, 20_000),
         &Yielding,
     );
-    assert_eq!(&rt;
-        answer,
-        Ok(tally(said.ok, said.failed.saturating_add(200), 0))
-    );
+    assert_eq!(&rt; answer, Ok(lines_tally(said.ok, 0, said.failed, 200)));
     assert_eq!(&rt; out.bytes(), verdicts.as_slice());
     assert_eq!(&rt; shelf.failures(), said.failed);
     Ok(())

@@ -2,7 +2,7 @@
 
 ghost use Rattle.std.specs.Prelude.{◌≡◌, [], None, false};
 
-use b3_check::{CannotRead, Shelf};
+use b3_check::{CannotRead, NoContent, Shelf};
 use std::alloc::Global;
 
 /// A name is a letter and a number of bytes: `g` is a file of so many bytes of the content, `f` one that fails
@@ -89,11 +89,11 @@ impl Shelf for LetteredFiles<'_> {
 
     ghost left = { λ _. [] };
 
-    fn begin(&mut self, name: &str) -> Result<(), CannotRead> {
+    fn begin(&mut self, name: &str) -> Result<(), NoContent> {
         self.is_begun = false;
         if !self.is_kept(name) || name.starts_with("m") {
             self.failures += 1;
-            return Err(CannotRead);
+            return Err(NoContent::CannotRead);
         }
         self.reads_before = if name.starts_with("f") { 1 } else { u64::MAX };
         self.rest = if name == "l" {

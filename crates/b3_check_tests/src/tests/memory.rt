@@ -3,7 +3,7 @@
 ghost use Rattle.std.specs.Prelude.{◌≡◌, ◌^◌, ◌<◌};
 
 use crate::tests::checks::THREE_COMPLAINTS;
-use crate::tests::{check_options, options, tally};
+use crate::tests::{check_options, lines_tally, options, tally};
 use b3_board::OpenGate;
 use b3_check::{
     Answer, MemoryShelf, MemorySink, RunFault, Shelf, Sink, Tally, Verdict, judge, run_check,
@@ -164,7 +164,7 @@ fn refused_memory_of_a_check_of_three_lines(rt: HostRuntime) -> Result<(), Fail>
     compare_refused(
         &rt,
         answer,
-        tally(1, 2, 0),
+        lines_tally(1, 1, 0, 1),
         (out.bytes(), b"x: OK\ny: FAILED\n"),
         (err.bytes(), THREE_COMPLAINTS),
     );

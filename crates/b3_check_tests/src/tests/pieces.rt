@@ -4,7 +4,7 @@ ghost use Rattle.std.specs.Prelude.{◌≡◌, ◌^◌, ◌<◌, ◌≤◌, [], 
 
 use crate::tests::{options, pattern, tally};
 use b3_board::OpenGate;
-use b3_check::{CannotRead, MemoryShelf, MemorySink, Shelf, run_sum};
+use b3_check::{CannotRead, MemoryShelf, MemorySink, NoContent, Shelf, run_sum};
 use b3_hash::hash;
 use b3_lines::write_line;
 use std::alloc::Global;
@@ -102,7 +102,7 @@ impl Shelf for RefusingShelf<'_> {
 
     ghost left = { λ _. [] };
 
-    fn begin(&mut self, _name: &str) -> Result<(), CannotRead> {
+    fn begin(&mut self, _name: &str) -> Result<(), NoContent> {
         self.rest = self.content;
         Ok(())
     }

@@ -23,8 +23,10 @@ const NAMES: [&str; 10] = [
 const BYTES: [u8; 10] = *b"\\nq\r\n\0g)\xFF ";
 
 // What is said of lists and their lines.
-const REASONS: [&str; 10] = [
+const REASONS: [&str; 12] = [
     ": cannot read\n",
+    ": no file was verified\n",
+    ": no check line found\n",
     ": empty line\n",
     ": not text\n",
     ": short line\n",
@@ -38,8 +40,8 @@ const REASONS: [&str; 10] = [
 
 // A row of numbers that look like chance.
 #[derive(Drop)]
-struct Chance {
-    state: u64,
+pub struct Chance {
+    pub state: u64,
 }
 
 impl Chance {
@@ -68,7 +70,7 @@ impl Chance {
     }
 
     // How many calls come before the one that fails, if any does.
-    fn calls_before(&mut self, many: u64) -> u64
+    pub fn calls_before(&mut self, many: u64) -> u64
         requires { 0 < many }
     {
         if self.is_one_in(2) {
@@ -79,7 +81,7 @@ impl Chance {
     }
 
     // The greatest length of a piece.
-    fn piece(&mut self) -> usize
+    pub fn piece(&mut self) -> usize
         ensures { 0 < result }
     {
         match self.below(3) {
@@ -101,7 +103,7 @@ fn bytes_at_random(alloc: Global, chance: &mut Chance, most: u64) -> Result<Vec<
 }
 
 // Files of random bytes, some of them of a name's; the name `-` has a key.
-fn files_at_random(alloc: Global, chance: &mut Chance) -> Result<Vec<File>, Fail> {
+pub fn files_at_random(alloc: Global, chance: &mut Chance) -> Result<Vec<File>, Fail> {
     let mut files = Vec::new(alloc);
     for name in NAMES {
         let most = if chance.is_one_in(4) { 3_000 } else { 80 };
@@ -170,7 +172,7 @@ fn break_at_random(alloc: Global, chance: &mut Chance, line: &mut Vec<u8>) -> Re
 }
 
 // A list of some lines, the last of which may be cut off.
-fn list_at_random(
+pub fn list_at_random(
     alloc: Global,
     chance: &mut Chance,
     name: &'static str,
@@ -251,6 +253,10 @@ fn check_options_at_random(chance: &mut Chance) -> CheckOptions
 {
     CheckOptions {
         quiet: chance.is_one_in(2),
+        ignore_missing: chance.is_one_in(2),
+        status: chance.is_one_in(4),
+        strict: chance.is_one_in(2),
+        warn: chance.is_one_in(2),
         workers: 4,
         turns: turns_at_random(chance),
         largest: if chance.is_one_in(4) {
@@ -306,7 +312,11 @@ impl Seen {
         match answer {
             Ok(tally) => {
                 self.ok = self.ok.saturating_add(tally.ok);
-                self.failed = self.failed.saturating_add(tally.failed);
+                self.failed = self
+                    .failed
+                    .saturating_add(tally.differing)
+                    .saturating_add(tally.unreadable)
+                    .saturating_add(tally.malformed);
                 self.lists = self.lists.saturating_add(tally.lists);
             }
             Err(fault) => self.faults.push(fault)?,
@@ -331,7 +341,7 @@ impl Seen {
 }
 
 // Compares a run with its report: at its end the texts are the report's, at a fault beginnings of them.
-fn compare(
+pub fn compare(
     rt: &impl Abort,
     seed: u64,
     answer: Result<Tally, RunFault>,

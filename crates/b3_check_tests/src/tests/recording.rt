@@ -2,7 +2,7 @@
 
 ghost use Rattle.std.specs.Prelude.{◌≡◌, ◌<◌, [], false, None, Some, is_some};
 
-use b3_check::{CannotRead, Shelf, Sink, SinkFailed};
+use b3_check::{CannotRead, NoContent, Shelf, Sink, SinkFailed};
 use std::alloc::Global;
 
 /// A name and its content.
@@ -30,6 +30,8 @@ pub enum State {
     Begun,
     /// All was read.
     Ended,
+    /// No such name is there.
+    Missing,
     /// A call failed.
     Failed,
 }
@@ -39,6 +41,11 @@ impl Answer<'_> {
     pub fn bytes(&self) -> &[u8] {
         let given = self.content.len().saturating_sub(self.rest.len());
         self.content.get(..given).unwrap_or(self.content)
+    }
+
+    /// Whether the name is missing, or a call failed.
+    pub fn is_unread(&self) -> bool {
+        matches!(self.state, State::Missing | State::Failed)
     }
 }
 
@@ -125,15 +132,15 @@ impl Shelf for RecordedFiles<'_> {
 
     ghost left = { λ _. [] };
 
-    fn begin(&mut self, name: &str) -> Result<(), CannotRead> {
+    fn begin(&mut self, name: &str) -> Result<(), NoContent> {
         let is_fault = is_at_fault(&mut self.calls_before);
         let found = content_of(self.files, name);
         self.is_begun = !is_fault && found.is_some();
         let content = found.unwrap_or(b"");
-        let state = if self.is_begun {
-            State::Begun
-        } else {
-            State::Failed
+        let state = match found {
+            _ if is_fault => State::Failed,
+            Some(_) => State::Begun,
+            None => State::Missing,
         };
         let is_recorded = record(self.alloc, &mut self.answers, name, content, state);
         if self.is_begun && is_recorded {
@@ -141,7 +148,10 @@ impl Shelf for RecordedFiles<'_> {
         }
         self.is_begun = false;
         self.failures += 1;
-        Err(CannotRead)
+        if state == State::Missing {
+            return Err(NoContent::Missing);
+        }
+        Err(NoContent::CannotRead)
     }
 
     fn read(&mut self, room: &mut [u8]) -> Result<usize, CannotRead> {

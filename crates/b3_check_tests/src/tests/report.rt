@@ -19,6 +19,11 @@ pub struct Report<'a> {
     answers: &'a [Answer<'a>],
     taken: usize,
     turns: u64,
+    // nothing is said
+    is_silent: bool,
+    // of the list at hand: whether a name was verified, and whether a line is a check line
+    is_verified: bool,
+    has_line: bool,
     pub out: Vec<u8>,
     pub err: Vec<u8>,
     pub tally: Tally,
@@ -33,13 +38,12 @@ impl<'a> Report<'a> {
             answers,
             taken: 0,
             turns,
+            is_silent: false,
+            is_verified: false,
+            has_line: false,
             out: Vec::new(alloc),
             err: Vec::new(alloc),
-            tally: Tally {
-                ok: 0,
-                failed: 0,
-                lists: 0,
-            },
+            tally: Tally::none(),
             fault: None,
         }
     }
@@ -65,7 +69,7 @@ impl<'a> Report<'a> {
         let answer = self.next(rt, name)?;
         let is_long = answer.bytes().len() as u64 > largest;
         if answer.state != State::Begun {
-            assert!(rt; answer.state == State::Failed || !is_long);
+            assert!(rt; answer.is_unread() || !is_long);
             self.fault = None;
             return Some(answer);
         }
@@ -76,11 +80,17 @@ impl<'a> Report<'a> {
     }
 
     fn say(&mut self, pieces: &[&[u8]]) -> Result<(), AllocError> {
+        if self.is_silent {
+            return Ok(());
+        }
         let text = concatenated(self.alloc, pieces)?;
         self.out.extend_from_slice(text.as_slice())
     }
 
     fn complain(&mut self, pieces: &[&[u8]]) -> Result<(), AllocError> {
+        if self.is_silent {
+            return Ok(());
+        }
         let text = concatenated(self.alloc, pieces)?;
         self.err.extend_from_slice(text.as_slice())
     }
@@ -89,8 +99,8 @@ impl<'a> Report<'a> {
         self.tally.ok = self.tally.ok.saturating_add(1);
     }
 
-    fn count_failed(&mut self) {
-        self.tally.failed = self.tally.failed.saturating_add(1);
+    fn count_unreadable(&mut self) {
+        self.tally.unreadable = self.tally.unreadable.saturating_add(1);
     }
 
     // The mode of the run, for which a key may be asked first.
@@ -107,7 +117,7 @@ impl<'a> Report<'a> {
         self.fault = Some(RunFault::ReadFault);
         let answer = self.next(rt, b"-")?;
         assert!(rt; answer.reads <= 33);
-        if answer.state == State::Failed {
+        if answer.is_unread() {
             return None;
         }
         assert!(rt; answer.state == State::Ended || answer.bytes().len() == 33);
@@ -130,15 +140,15 @@ impl<'a> Report<'a> {
     ) -> Result<bool, Fail> {
         let shown = shown(self.alloc, name)?;
         if matches!(options.form, Form::Named | Form::Tagged) && is_bad_name(name) {
-            self.count_failed();
+            self.count_unreadable();
             self.complain(&[b"b3sum: ", shown.as_slice(), b": bad name\n"])?;
             return Ok(true);
         }
         let Some(answer) = self.next_whole(rt, name, u64::MAX) else {
             return Ok(false);
         };
-        if answer.state == State::Failed {
-            self.count_failed();
+        if answer.is_unread() {
+            self.count_unreadable();
             self.complain(&[b"b3sum: ", shown.as_slice(), b": cannot read\n"])?;
             return Ok(true);
         }
@@ -162,54 +172,93 @@ impl<'a> Report<'a> {
         let Some(answer) = self.next_whole(rt, name, options.largest) else {
             return Ok(false);
         };
-        if answer.state == State::Failed {
-            let shown = shown(self.alloc, name)?;
-            self.tally.lists = self.tally.lists.saturating_add(1);
-            self.complain(&[b"b3sum: ", shown.as_slice(), b": cannot read\n"])?;
+        let shown = shown(self.alloc, name)?;
+        if answer.is_unread() {
+            self.list_failed(shown.as_slice(), b"cannot read")?;
             return Ok(true);
         }
+        self.is_verified = false;
+        self.has_line = false;
         let lines = lines(self.alloc, answer.bytes())?;
         for (place, line) in lines.iter().enumerate() {
             let goes_on = match read(self.alloc, line.as_slice())? {
-                Outcome::Refused(reason) => self.refused(place, reason)?,
-                Outcome::Taken(entry) => self.entry(rt, options.quiet, &entry)?,
+                Outcome::Refused(reason) => {
+                    self.refused(options, shown.as_slice(), place, reason)?;
+                    true
+                }
+                Outcome::Taken(entry) => self.entry(rt, options, &entry)?,
             };
             if !goes_on {
                 return Ok(false);
             }
         }
+        self.list_end(options, shown.as_slice())?;
         Ok(true)
+    }
+
+    // A list fails.
+    fn list_failed(&mut self, shown: &[u8], why: &[u8]) -> Result<(), Fail> {
+        self.tally.lists = self.tally.lists.saturating_add(1);
+        self.complain(&[b"b3sum: ", shown, b": ", why, b"\n"])?;
+        Ok(())
+    }
+
+    // What is said of a list after its lines. It fails once, whatever is wrong with it.
+    fn list_end(&mut self, options: &CheckOptions, shown: &[u8]) -> Result<(), Fail> {
+        let lists = self.tally.lists;
+        if options.ignore_missing && !self.is_verified {
+            self.list_failed(shown, b"no file was verified")?;
+        }
+        if options.strict && !self.has_line {
+            self.list_failed(shown, b"no check line found")?;
+        }
+        self.tally.lists = self.tally.lists.min(lists.saturating_add(1));
+        Ok(())
     }
 
     // What is said of a line that is refused.
-    fn refused(&mut self, place: usize, reason: &str) -> Result<bool, Fail> {
+    fn refused(
+        &mut self,
+        options: &CheckOptions,
+        list: &[u8],
+        place: usize,
+        reason: &str,
+    ) -> Result<(), Fail> {
         let number = place.saturating_add(1).to_string(self.alloc)?;
-        self.count_failed();
-        self.complain(&[
-            b"b3sum: line ",
-            number.as_bytes(),
-            b": ",
-            reason.as_bytes(),
-            b"\n",
-        ])?;
-        Ok(true)
+        self.tally.malformed = self.tally.malformed.saturating_add(1);
+        self.complain(&[b"b3sum: "])?;
+        if options.warn {
+            self.complain(&[list, b": "])?;
+        }
+        self.complain(&[b"line ", number.as_bytes(), b": ", reason.as_bytes(), b"\n"])?;
+        Ok(())
     }
 
     // What is said of any other line.
-    fn entry(&mut self, rt: &impl Abort, quiet: bool, entry: &Entry) -> Result<bool, Fail> {
+    fn entry(
+        &mut self,
+        rt: &impl Abort,
+        options: &CheckOptions,
+        entry: &Entry,
+    ) -> Result<bool, Fail> {
         let Some(answer) = self.next_whole(rt, entry.name.as_slice(), u64::MAX) else {
             return Ok(false);
         };
+        self.has_line = true;
         let shown = entry.shown.as_slice();
-        if answer.state == State::Failed {
-            self.count_failed();
+        if answer.state == State::Missing && options.ignore_missing {
+            self.tally.missing = self.tally.missing.saturating_add(1);
+        } else if answer.is_unread() {
+            self.count_unreadable();
             self.say(&[shown, b": FAILED (cannot read)\n"])?;
         } else if b3_hash::hash(answer.bytes()).as_slice() != entry.digest.as_slice() {
-            self.count_failed();
+            self.is_verified = true;
+            self.tally.differing = self.tally.differing.saturating_add(1);
             self.say(&[shown, b": FAILED\n"])?;
         } else {
+            self.is_verified = true;
             self.count_ok();
-            if !quiet {
+            if !options.quiet {
                 self.say(&[shown, b": OK\n"])?;
             }
         }
@@ -218,9 +267,14 @@ impl<'a> Report<'a> {
 
     // What is said at the end.
     fn warning(&mut self) -> Result<(), Fail> {
-        if self.tally.failed > 0 {
-            let count = self.tally.failed.to_string(self.alloc)?;
-            let checksums = checksums(self.tally.failed);
+        let counts = self.tally;
+        let failed = counts
+            .differing
+            .saturating_add(counts.unreadable)
+            .saturating_add(counts.malformed);
+        if failed > 0 {
+            let count = failed.to_string(self.alloc)?;
+            let checksums = checksums(failed);
             self.complain(&[
                 b"b3sum: WARNING: ",
                 count.as_bytes(),
@@ -285,6 +339,7 @@ pub fn check_report<'a>(
     answers: &'a [Answer<'a>],
 ) -> Result<Report<'a>, Fail> {
     let mut report = Report::new(alloc, answers, options.turns);
+    report.is_silent = options.status;
     for list in lists {
         if !report.list(rt, options, list.as_bytes())? {
             return Ok(report);

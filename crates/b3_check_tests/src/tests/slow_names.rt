@@ -4,7 +4,7 @@ ghost use Rattle.std.specs.Prelude.{◌≡◌, [], None, false, true};
 
 use crate::tests::workers::Yielding;
 use crate::tests::{options, tally};
-use b3_check::{CannotRead, MemorySink, Shelf, Sink, SinkFailed, run_sum};
+use b3_check::{CannotRead, MemorySink, NoContent, Shelf, Sink, SinkFailed, run_sum};
 use std::sync::atomic::{AtomicBool, Ordering};
 use std::test::Fail;
 use std::thread;
@@ -30,7 +30,7 @@ impl Shelf for SlowShelf<'_> {
 
     ghost left = { λ _. [] };
 
-    fn begin(&mut self, name: &str) -> Result<(), CannotRead> {
+    fn begin(&mut self, name: &str) -> Result<(), NoContent> {
         self.is_slow = name == "slow";
         Ok(())
     }

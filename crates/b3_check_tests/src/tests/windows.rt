@@ -4,7 +4,7 @@ ghost use Rattle.std.specs.Prelude.{◌^◌, ◌<◌, ◌≤◌};
 
 use crate::tests::devices::{FailingShelf, OneByteShelf};
 use crate::tests::sums::sum_one;
-use crate::tests::{EMPTY, ONE_BYTE, check_options, joined, options, pattern, tally};
+use crate::tests::{EMPTY, ONE_BYTE, check_options, joined, lines_tally, options, pattern, tally};
 use b3_board::OpenGate;
 use b3_check::{MemoryShelf, MemorySink, RunFault, Shelf, run_check, run_sum};
 use std::alloc::Global;
@@ -331,7 +331,7 @@ fn a_list_of_files_of_three_windows(rt: HostRuntime) -> Result<(), Fail> {
         &asked,
         &OpenGate,
     );
-    assert_eq!(rt; answer, Ok(tally(2, 1, 0)));
+    assert_eq!(rt; answer, Ok(lines_tally(2, 1, 0, 0)));
     assert_eq!(rt; out.bytes(), b"a: OK\na: FAILED\na: OK\n".as_slice());
     assert_eq!(rt;
         err.bytes(),

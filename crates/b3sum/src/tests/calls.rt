@@ -227,9 +227,33 @@ fn a_list_is_checked_and_good_lines_passed_over(rt: HostRuntime) -> Result<(), A
     assert_call(&rt, alloc, &mut shelf, &words, b"y: FAILED\n", err, 1)
 }
 
+// All the words of a check, with one list that is empty, and with the line of a run fault.
+#[test]
+fn a_check_with_all_its_words(rt: HostRuntime) -> Result<(), AllocError> {
+    let alloc = rt.alloc();
+    let mut shelf = MemoryShelf::new(alloc);
+    shelf.put("x", b"\0")?;
+    shelf.put("empty", b"")?;
+    shelf.put(
+        "l",
+        b"2d3adedff11b61f14c886e35afa036736dcd87a74d27b5c1510225d0f592e213  x\n\
+          2d3adedff11b61f14c886e35afa036736dcd87a74d27b5c1510225d0f592e213  none\n\n",
+    )?;
+    let words = ["-c", "-w", "--ignore-missing", "--strict", "l", "empty"];
+    let err = b"b3sum: l: line 3: empty line\n\
+                b3sum: empty: no file was verified\n\
+                b3sum: empty: no check line found\n\
+                b3sum: WARNING: 1 computed checksum did NOT match\n";
+    assert_call(&rt, alloc, &mut shelf, &words, b"x: OK\n", err, 1)?;
+    let words = ["-c", "--status", "--ignore-missing", "--strict", "empty"];
+    let mut shelf = MemoryShelf::new(alloc);
+    shelf.put("empty", b"")?;
+    assert_call(&rt, alloc, &mut shelf, &words, b"", b"", 1)
+}
+
 #[test]
 fn words_that_ask_for_nothing_that_can_be_done(rt: HostRuntime) -> Result<(), AllocError> {
-    let rows: [(&[&str], &str); 20] = [
+    let rows: [(&[&str], &str); 27] = [
         (
             &["--check", "--raw", "--keyed"],
             "b3sum: --check cannot be used with --keyed\n",
@@ -298,6 +322,28 @@ fn words_that_ask_for_nothing_that_can_be_done(rt: HostRuntime) -> Result<(), Al
         ),
         (&["--keyed"], "b3sum: --keyed needs files\n"),
         (&["--keyed", "e", "-"], "b3sum: --keyed needs files\n"),
+        (
+            &["--ignore-missing", "--status", "--strict", "-w"],
+            "b3sum: --ignore-missing needs --check\n",
+        ),
+        (
+            &["-w", "--strict", "--status"],
+            "b3sum: --status needs --check\n",
+        ),
+        (&["-w", "--strict"], "b3sum: --strict needs --check\n"),
+        (&["-w", "e"], "b3sum: --warn needs --check\n"),
+        (
+            &["--ignore-missing", "--quiet"],
+            "b3sum: --quiet needs --check\n",
+        ),
+        (
+            &["--status", "--seek", "18446744073709551615"],
+            "b3sum: --seek and --length pass the end of the output\n",
+        ),
+        (
+            &["--check", "--strict", "--tag"],
+            "b3sum: --check cannot be used with --tag\n",
+        ),
     ];
     for (words, err) in &rows {
         assert_piped!(&rt, b"", words, b"", err.as_bytes(), 2)?;

@@ -32,6 +32,7 @@ fn no_words(rt: HostRuntime) -> Result<(), Stop> {
     let words = read(rt.alloc(), &[])?;
     assert!(rt; !words.check && !words.keyed && !words.raw && !words.no_names && !words.quiet);
     assert!(rt; !words.tag && words.derive_key.is_none());
+    assert!(rt; !words.ignore_missing && !words.status && !words.strict && !words.warn);
     assert_eq!(rt; words.length, None);
     assert_eq!(rt; words.seek, None);
     assert_eq!(rt; words.num_threads, None);
@@ -57,6 +58,10 @@ fn all_words(rt: HostRuntime) -> Result<(), Stop> {
             "--no-names",
             "--tag",
             "--quiet",
+            "--ignore-missing",
+            "--status",
+            "--strict",
+            "-w",
             "--num-threads",
             "0",
             "--no-mmap",
@@ -66,7 +71,7 @@ fn all_words(rt: HostRuntime) -> Result<(), Stop> {
         ],
     )?;
     assert!(rt; words.check && words.keyed && words.raw && words.no_names && words.quiet);
-    assert!(rt; words.tag);
+    assert!(rt; words.tag && words.ignore_missing && words.status && words.strict && words.warn);
     assert_eq!(rt; words.seek, Some(7));
     assert!(rt; words.derive_key == Some(String::from_str(rt.alloc(), "a context")?));
     assert_eq!(rt; words.length, Some(0));
@@ -113,6 +118,35 @@ fn the_ends_of_each_range(rt: HostRuntime) -> Result<(), Stop> {
     Ok(())
 }
 
+// Each word sets its own field.
+#[test]
+fn words_of_a_check(rt: HostRuntime) -> Result<(), Stop> {
+    let alloc = rt.alloc();
+    for (k, word) in [
+        "--quiet",
+        "--ignore-missing",
+        "--status",
+        "--strict",
+        "--warn",
+    ]
+    .iter()
+    .enumerate()
+    {
+        let words = read(alloc, &["-c", *word])?;
+        let fields = [
+            words.quiet,
+            words.ignore_missing,
+            words.status,
+            words.strict,
+            words.warn,
+        ];
+        for (place, field) in fields.iter().enumerate() {
+            assert_eq!(rt; *field, place == k, "{word}");
+        }
+    }
+    Ok(())
+}
+
 #[test]
 fn words_that_are_not_taken(rt: HostRuntime) {
     let alloc = rt.alloc();
@@ -154,6 +188,10 @@ fn words_of_a_sum(alloc: Global, tag: bool, no_names: bool) -> Words {
         no_names,
         tag,
         quiet: false,
+        ignore_missing: false,
+        status: false,
+        strict: false,
+        warn: false,
         num_threads: None,
         files: Vec::new(alloc),
     }

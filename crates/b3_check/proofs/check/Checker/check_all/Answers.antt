@@ -7,10 +7,10 @@ use Rattle.b3_check.proofs.check.Checker.check_all.Goals as goal
 pub returns-in_err-one-clause-run : goal.returns-in_err-one-clause-run
 returns-in_err-one-clause-run g c =
     let p = err_from_is_err_and c.from_residual.result c.from_residual.ensures.1 in
-    let stopped = rw (c.loop-list.invariant.limits, c.loop-list.invariant.quiet, c.as_str.ensures.value) at
+    let stopped = rw (c.loop-list.invariant.options, c.as_str.ensures.value) at
     c.in_err-one.ensures.run in
     rw (p.1, p.2)
-    (lists_stopped string_bytes c.args.self.now.quiet c.args.lists.now c.loop-list.list-index c.list-item.result
+    (lists_stopped string_bytes c.args.self.now.options c.args.lists.now c.loop-list.list-index c.list-item.result
     c.loop-list-test.true c.list-item.is
     c.loop-list.invariant.ran stopped)
 
@@ -20,23 +20,21 @@ loop-list-init g c = record {
   few = rw c.none-tally.ensures (omega arith);
   failures = omega arith;
   loans = refl;
-  quiet = refl;
-  limits = refl;
+  options = refl;
 }
 
 pub loop-list-preserved : goal.loop-list-preserved
 loop-list-preserved g c =
-    let ran = rw (c.loop-list.invariant.quiet, c.as_str.ensures.value) at c.in_ok-one.ensures.run in
-    let count = rw c.loop-list.invariant.limits at c.in_ok-one.ensures.count in
-    let failures = rw c.loop-list.invariant.limits at c.in_ok-one.ensures.shelf_count in
-    let next = lists_next c.loop-list.list-index c.args.self.now.limits.largest in
+    let ran = rw (c.loop-list.invariant.options, c.as_str.ensures.value) at c.in_ok-one.ensures.run in
+    let count = rw c.loop-list.invariant.options at c.in_ok-one.ensures.count in
+    let failures = rw c.loop-list.invariant.options at c.in_ok-one.ensures.shelf_count in
+    let next = lists_next c.loop-list.list-index c.args.self.now.options.largest in
     record {
-      ran = rw c.add.ensures (lists_more string_bytes c.args.self.now.quiet c.args.lists.now c.loop-list.list-index
+      ran = rw c.add.ensures (lists_more string_bytes c.args.self.now.options c.args.lists.now c.loop-list.list-index
           c.list-item.result c.loop-list-test.true c.list-item.is
           c.loop-list.invariant.ran ran);
       few = rw c.add.ensures (omega (arith, count, next, c.loop-list.invariant.few));
       failures = omega (arith, failures, next, c.loop-list.invariant.failures);
       loans = c.in_ok-one.ensures.loans ∙ c.loop-list.invariant.loans;
-      quiet = c.in_ok-one.ensures.quiet ∙ c.loop-list.invariant.quiet;
-      limits = c.in_ok-one.ensures.limits ∙ c.loop-list.invariant.limits;
+      options = c.in_ok-one.ensures.options ∙ c.loop-list.invariant.options;
     }

@@ -10,12 +10,11 @@ abbrev pub invariant-loop-list : goal.invariant-loop-list
 invariant-loop-list g l =
     let seen = scene_of g.S.Shelf g.O.Sink g.E.Sink in
     record {
-      ran : Ran (lists_script l.fn.self.quiet (map string_bytes (take l.list-index l.lists))) (seen l.fn.desk)
+      ran : Ran (lists_script l.fn.self.options (map string_bytes (take l.list-index l.lists))) (seen l.fn.desk)
           (seen l.desk) l.tally;
-      few : counted l.tally ≤ l.list-index * (1 + l.fn.self.limits.largest);
+      few : counted l.tally ≤ l.list-index * (1 + l.fn.self.options.largest);
       failures : (seen l.desk).failures ≤ (seen l.fn.desk).failures + l.list-index *
-          (1 + l.fn.self.limits.largest);
+          (1 + l.fn.self.options.largest);
       loans : loans l.desk ≡ loans l.fn.desk;
-      quiet : l.self.quiet ≡ l.fn.self.quiet;
-      limits : l.self.limits ≡ l.fn.self.limits;
+      options : l.self.options ≡ l.fn.self.options;
     }

@@ -1,9 +1,11 @@
-use Rattle.std.proofs.Common.{◌∙◌, ap, rules, subst}
+use Rattle.std.proofs.Common.{◌∙◌, ap, rules, subst, sym}
 use Rattle.b3_core.specs.Output.{output_bytes}
 use Rattle.b3_hash.specs.Readers.{Reader}
 use Rattle.b3_check.specs.Contents.{HasContent}
 use Rattle.b3_check.specs.Reading.{IsOutputOf}
-use Rattle.b3_check.proofs.ReadLemmas.{digest_whole}
+use Rattle.b3_check.specs.Scripts.Kind.{Hashed}
+use Rattle.b3_check.specs.declared.shelf.NoContent.TheVariants.{CannotRead}
+use Rattle.b3_check.proofs.ReadLemmas.{agrees_failed, agrees_lacking, digest_none, digest_whole}
 use Rattle.b3_check.proofs.hashing.Digester.hash_name.Goals as goal
 
 pub returns-clause-digest : goal.returns-clause-digest
@@ -18,3 +20,13 @@ returns-clause-digest g c =
     c.take_digest.new.self.digest.items has is_output
     (λ content is. (rw c.hash_rest.ensures.output at c.take_digest.ensures.digest)
     ∙ ap (λ (r : Reader). output_bytes r.node output.seek output.length) is)
+
+pub returns-in-Err-clause-digest : goal.returns-in-Err-clause-digest
+returns-in-Err-clause-digest g c =
+    let lacks = rw c.in-Err.is at c.begin.ensures.why in
+    digest_none _ _ _ _ c.in-Err.why (agrees_lacking _ _ Hashed _ c.in-Err.why lacks)
+
+pub returns-in_default-2-clause-digest : goal.returns-in_default-2-clause-digest
+returns-in_default-2-clause-digest g c =
+    let failed = rw c.in_default-2.is at c.in_ok-output.ensures.whole in
+    digest_none _ _ _ _ CannotRead (agrees_failed _ _ Hashed _ (sym c.begin.ensures.still_sure ∙ failed))

@@ -10,7 +10,7 @@ returns-clause-few c =
     let places = c.lines.result in
     omega (
       arith,
-      length-line_tasks c.args.quiet c.args.first (map (line_at text) places),
+      length-line_tasks c.args.options c.args.name.now c.args.first (map (line_at text) places),
       length-map places
           (line_at text),
       c.lines.ensures.count,

@@ -18,4 +18,5 @@ returns-in_ok-say-in-Ask-clause-run g c =
     (ran_find (subject_report c.in-Ask.subject) c.in_ok-said-in-Ask.ensures.gives c.in_ok-say-in-Ask.ensures.said refl)
 
 pub returns-in_ok-say-in-Say-clause-run : goal.returns-in_ok-say-in-Say-clause-run
-returns-in_ok-say-in-Say-clause-run g c = rw c.in-Say.is (ran_said (report_of c.in-Say.said) c.in_ok-say-in-Say.ensures.said refl)
+returns-in_ok-say-in-Say-clause-run g c =
+    rw c.in-Say.is (ran_said (report_of c.in-Say.said) c.in_ok-say-in-Say.ensures.said refl)
