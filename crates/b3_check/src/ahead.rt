@@ -68,10 +68,10 @@ impl Hand {
     {
         self.found.clear();
         for _ in 0..items.len() {
-            if hashed.load(Ordering::Relaxed) >= ROUND_LEN {
+            if hashed.load(Ordering::SeqCst) >= ROUND_LEN {
                 return;
             }
-            let place = taken.fetch_add(1, Ordering::Relaxed);
+            let place = taken.fetch_add(1, Ordering::SeqCst);
             let Some(item) = items.get(place) else {
                 return;
             };
@@ -81,7 +81,7 @@ impl Hand {
             let Some((node, len)) = self.node_of(shelf, mode, subject.name()) else {
                 continue;
             };
-            hashed.fetch_add(len, Ordering::Relaxed);
+            hashed.fetch_add(len, Ordering::SeqCst);
             keep(&mut self.found, Found { place, node });
         }
     }
@@ -308,7 +308,7 @@ fn look_all<R: Threads + Wait + Sync, G: Gate + Sync, S: Shelf + Sync>(
                 hand.exit.now.found.items }
         { hand.look(shelf, mode, items, &taken, &hashed) },
     );
-    taken.load(Ordering::Relaxed)
+    taken.load(Ordering::SeqCst)
 }
 
 // So many nodes that are not known.

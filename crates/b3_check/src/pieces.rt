@@ -239,19 +239,19 @@ fn work<S: Shelf>(shelf: &S, mode: &Mode, hand: &mut Hand, end: u64, next: &Atom
         return;
     }
     'pieces: for _ in 0..ROUND {
-        let index = next.fetch_add(1, Ordering::Relaxed);
+        let index = next.fetch_add(1, Ordering::SeqCst);
         if index >= end {
             return;
         }
         let Some(piece) = read_piece(shelf, mode, hand.room.as_mut_slice(), index) else {
-            next.store(MOST_PIECES, Ordering::Relaxed);
+            next.store(MOST_PIECES, Ordering::SeqCst);
             return;
         };
         if hand.done.push(piece).is_err() {
             return;
         }
         if piece.len < PIECE_LEN {
-            next.store(MOST_PIECES, Ordering::Relaxed);
+            next.store(MOST_PIECES, Ordering::SeqCst);
             return;
         }
     }
