@@ -5,7 +5,8 @@ use Rattle.std.proofs.lemmas.List.{get_or_past, get_or_push, get_or_append_left,
 use Rattle.std.proofs.lemmas.List.FromFn.{map-range_with_len_more}
 use Rattle.std.specs.List.{range_with_len}
 use Rattle.std.proofs.lemmas.List.Sums.{sum_by-cons, sum_by_more, sum_by_push, sum_by-take-le}
-use Rattle.std.specs.List.{sum_by}
+use Rattle.std.specs.List.{All, sum_by}
+use Rattle.std.proofs.lemmas.List.Elements.{All-get_or}
 use Rattle.b3_core.specs.Subtrees.{IsSubtree}
 use Rattle.b3_core.specs.Tree.{chunks}
 use Rattle.b3_core.specs.declared.modes.Mode.{Mode}
@@ -120,6 +121,17 @@ lawful_new input mode first spans cutting =
       };
       apart = λ i j i_kept j_kept kids. absurd (false≢true (sym (none_kept n spans cutting i) ∙ i_kept));
     }
+
+-- no entry of a fresh board has more chunks than the longest span
+pub open_count-fresh : (n grain : ℕ) (spans : List Span) → IsCutting n spans → All (λ s. s.count ≤ grain) spans
+    → (i : ℕ) → open_count (at (map fresh spans) i) ≤ grain
+open_count-fresh n grain spans cutting few i =
+    elim (at_fresh n spans cutting i) [
+      | inl x ↦
+          let most = All-get_or (λ (s : Span). s.count ≤ grain) spans i no_span x.0 few in
+          subst (λ (e : Entry). open_count e ≤ grain) (sym x.1) most
+      | inr x ↦ subst (λ (e : Entry). open_count e ≤ grain) (sym x) (omega arith)
+    ]
 
 -- the spans of a fresh board, and that it has no piece
 pub open_spans-fresh : (spans : List Span) → open_spans (map fresh spans) ≡ spans

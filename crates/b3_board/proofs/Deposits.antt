@@ -2,7 +2,8 @@
 use Rattle.std.proofs.Common.{inl, inr, ◌⊎◌, ◌≡◌, ℕ, suc, ◌+◌, ◌<◌, List, [], ◌∷◌, length, map, set, Option, Some, None, arith, refl, sym, subst, ap, ◌∙◌}
 use Rattle.std.proofs.lemmas.Bool.{cases_lt}
 use Rattle.std.proofs.lemmas.List.{get_or_past}
-use Rattle.std.specs.List.{All, Contains, cons_option, filter_map, sum_by}
+use Rattle.std.specs.List.{All, Contains, cons_option, filter_map, slice_get, sum_by}
+use Rattle.std.specs.Option.{IfNone, IfSome}
 use Rattle.b3_core.specs.declared.modes.Mode.{Mode}
 use Rattle.b3_core.specs.declared.tree.Span.{Span}
 use Rattle.b3_board.specs.Entries.{IsInOrder, NoneOpen, at, kept_chunk, nothing, open_span, open_spans, pieces, some_open}
@@ -26,6 +27,33 @@ not_open es s none there =
     let (i, short, is) = place-from_Contains open_span es nothing s there in
     let (state_is, span_is) = open_is (at es i).state (at es i).span s is in
     none i state_is span_is
+
+-- the first of some spans
+first_of : (ss : List Span) (s : Span) → slice_get ss 0 ≡ Some s → Contains ss s
+first_of [] s is = cc
+first_of (x ∷ ss) s is = (0, omega arith, cc)
+
+no_first : (ss : List Span) → slice_get ss 0 ≡ None → ss ≡ []
+no_first [] is = refl
+no_first (x ∷ ss) is = cc
+
+-- what holds of each open entry's span holds of the first open span
+module _ (es : List Entry) where
+  pub first_open : (P : Span → Type 0) → ((i : ℕ) → (at es i).state ≡ Open → P (at es i).span)
+      → (o : Option Span) → o ≡ slice_get (open_spans es) 0 → IfSome o P
+  first_open P each None is = tt
+  first_open P each (Some s) is =
+      let (i, short, here) = place-from_Contains open_span es nothing s (first_of (open_spans es) s (sym is)) in
+      let (state_is, span_is) = open_is (at es i).state (at es i).span s here in
+      subst P span_is (each i state_is)
+
+  pub first_open-Contains : (o : Option Span) → o ≡ slice_get (open_spans es) 0 → IfSome o (Contains (open_spans es))
+  first_open-Contains None is = tt
+  first_open-Contains (Some s) is = first_of (open_spans es) s (sym is)
+
+  pub first_open-none : (o : Option Span) → o ≡ slice_get (open_spans es) 0 → IfNone o (open_spans es ≡ [])
+  first_open-none None is = no_first (open_spans es) (sym is)
+  first_open-none (Some s) is = tt
 
 -- a span of the board that was closed is deposited
 pub deposited : {Input : Type 0} (input : Input) (mode : Mode) (first : ℕ) (es fs : List Entry) (place : ℕ) (s : Span)

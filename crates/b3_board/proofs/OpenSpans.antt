@@ -193,6 +193,36 @@ still_closed es fs p short is i which =
           ∙ elim which [ inl same ↦ absurd (other same) | inr closed ↦ closed ]
     ]
 
+-- the chunks of an open span, and 0 of none
+chunks_open : Option Span → ℕ
+chunks_open None = 0
+chunks_open (Some s) = s.count
+
+open_count_is : (state : State) (s : Span) → if_open state s.count ≡ chunks_open (some_open state s)
+unfolding chunks_open
+open_count_is Joined s = refl
+open_count_is Open s = refl
+open_count_is (Kept kept) s = refl
+
+-- and no entry has more open chunks than before
+pub open_count-closed : (es fs : List Entry) (p : ℕ) → p < length es → map open_span fs ≡ set (map open_span es) p None
+    → (i : ℕ) → open_count (at fs i) ≤ open_count (at es i)
+unfolding chunks_open
+open_count-closed es fs p short is i =
+    let there : open_span (at fs i) ≡ get_or (set (map open_span es) p None) i None =
+    sym (map_at open_span fs i nothing) ∙ ap (λ (os : List (Option Span)). get_or os i None) is in
+    let now = open_count_is (at fs i).state (at fs i).span in
+    let was = open_count_is (at es i).state (at es i).span in
+    elim (cases_eq i p) [
+      | inl same ↦
+          let none : open_span (at fs i) ≡ None = still_closed es fs p short is i (inl same) in
+          omega (arith, now ∙ ap chunks_open none)
+      | inr other ↦
+          let stays : open_span (at fs i) ≡ open_span (at es i) =
+          there ∙ get_or-set_other (map open_span es) p i None None other ∙ map_at open_span es i nothing in
+          omega (arith, now ∙ ap chunks_open stays ∙ sym was)
+    ]
+
 -- the entries are as many
 pub same_length : (es fs : List Entry) (p : ℕ) → map open_span fs ≡ set (map open_span es) p None
     → length fs ≡ length es

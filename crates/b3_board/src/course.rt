@@ -26,13 +26,13 @@ pub(crate) trait Course<L: Ledger, B> {
     fn span_count(&self) -> usize
         ensures { result ≡ length (spans self.now) };
 
-    // Hashes span `i`, and may use the room for it; none where the span's bytes cannot be had.
+    // Does the work of span `i`, and may use the room for it; none where the room is too short.
     fn hash(&self, i: usize, room: &mut [u8]) -> Option<Self::Done>
         requires own { is_own self.now }
         requires index { i < length (spans self.now) }
         ensures { IfSome result (λ done. slice_get (spans self.now) i ≡ Some (span_of done)) };
 
-    // Deposits what was done. A deposit that is refused changes nothing.
+    // Deposits what was done, or that the span's bytes could not be had. A deposit that is refused changes nothing.
     fn deposit(&self, board: &mut B, done: Self::Done, share: &mut Share<L>)
         ensures parts { share.new.parts ≡ share.old.parts }
         ensures grown { share.new.chunks ≤ share.old.chunks + (span_of done).count };

@@ -159,6 +159,16 @@ fn padded(mut shares: ArrayVec<u64, 64>, workers: usize) -> ArrayVec<u64, 64>
     shares
 }
 
+// Adds chunks to the first number.
+pub(crate) fn add_to_first(shares: &mut ArrayVec<u64, 64>, count: u64)
+    requires some { 0 < length shares.old.items }
+    requires few { sum shares.old.items + count < 2 ^ 64 }
+    ensures shares { length shares.new.items ≡ length shares.old.items }
+    ensures sum { sum shares.new.items ≡ sum shares.old.items + count }
+{
+    shares.as_mut_slice()[0] += count;
+}
+
 // The list of a seat with all parts that has seen every index.
 fn close(claims: Claims, seat: Seat, count: usize) -> ArrayVec<u32, 1024>
     requires own { IsSeatOf claims seat }

@@ -1,6 +1,6 @@
 // Cuttings of the chunks of an input into subtrees.
 
-ghost use Rattle.std.specs.Prelude.{◌≡◌, ℕ, ◌*◌, ◌<◌, ◌≤◌, ◌^◌, length, IfOk, IsTrue, ◌↔◌};
+ghost use Rattle.std.specs.Prelude.{◌≡◌, ℕ, ◌*◌, ◌<◌, ◌≤◌, ◌^◌, All, length, IfOk, IsTrue, ◌↔◌};
 ghost use Rattle.std.specs.Int.{IsPowerOfTwo, div_ceil};
 ghost use Rattle.b3_board.specs.Plans.{IsCutting, IsGrain, grain_spans};
 
@@ -45,6 +45,7 @@ pub(crate) fn grain_spans(alloc: Global, n: u64, grain: u64) -> Result<Vec<Span>
     ensures spans { IfOk result (λ spans. spans.items ≡ grain_spans n grain) }
     ensures cutting { IfOk result (λ spans. IsCutting n spans.items) }
     ensures len { IfOk result (λ spans. length spans.items ≡ div_ceil n grain) }
+    ensures each { IfOk result (λ spans. All (λ span. span.count ≤ grain) spans.items) }
 {
     let count = n.div_ceil(grain);
     let mut spans = Vec::with_capacity(alloc, count as usize)?;

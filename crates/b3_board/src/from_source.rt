@@ -1,7 +1,7 @@
 // A run of workers over a source, in threads of their own.
 
 ghost use Rattle.std.specs.Int.{div_ceil};
-ghost use Rattle.std.specs.Prelude.{◌≡◌, ◌⊎◌, ℕ, ◌+◌, ◌<◌, ◌≤◌, ◌^◌, List, All, length, sum, sum_by, true, Some, Err, IfErr, IfOk, IfSome};
+ghost use Rattle.std.specs.Prelude.{◌≡◌, ◌⊎◌, ℕ, ◌+◌, ◌*◌, ◌<◌, ◌≤◌, ◌^◌, min, List, [], All, length, sum, sum_by, true, Some, Err, IfErr, IfOk, IfSome, IsSome, IsTrue};
 ghost use Rattle.b3_core.specs.Tree.{chunks};
 ghost use Rattle.b3_board.specs.Faults.{IsGrainFault, IsWorkersFault};
 ghost use Rattle.b3_board.specs.Regions.{IsNamed, region};
@@ -12,7 +12,7 @@ ghost use Rattle.b3_board.specs.declared.fault.BoardFault.{BoardFault};
 ghost use Rattle.b3_board.specs.declared.fault.BoardFault.TheVariants.{Memory};
 
 use crate::claims::Claims;
-use crate::crew::{MAX_WORKERS, deal, join_up, thread_count};
+use crate::crew::{Joined, MAX_WORKERS, add_to_first, deal, join_up, thread_count};
 use crate::cutting::{MAX_SPANS, grain_spans, is_grain};
 use crate::ended::Hand;
 use crate::fault::BoardFault;
@@ -39,8 +39,10 @@ use std::thread::Threads;
 /// deposits them as one of [`hash_parallel`](crate::hash_parallel) does.
 ///
 /// Refused by the first of `BadWorkers`, `BadGrain`, `TooLarge` and `TooManySpans` that holds, else by `Memory` where a
-/// growth is. None where some span could not be read whole, or where a part of the room is shorter than a span. The
-/// root is that of one content of `len` bytes, which is the source's where the source tells it. Nothing is swept.
+/// growth is. None where some span could not be read whole, or where the room is shorter than a span; so a source that
+/// is sure of these bytes gives Some. No more workers run than the room has spans for. The root is that of one content
+/// of `len` bytes, which is the source's where the source tells it. Nothing is swept: a span that no worker deposited,
+/// though none failed to read it, is read by this call and counted for the first worker.
 pub fn hash_source<R: Threads + Wait + Sync, S: Source + Sync, G: Gate + Sync>(
     rt: &R,
     alloc: Global,
@@ -65,6 +67,8 @@ pub fn hash_source<R: Threads + Wait + Sync, S: Source + Sync, G: Gate + Sync>(
     ensures shares { IfOk result (λ found. IfSome found (λ report. length report.shares.items ≡ workers)) }
     ensures all { IfOk result (λ found. IfSome found (λ report. sum report.shares.items ≡ chunks len)) }
     ensures swept { IfOk result (λ found. IfSome found (λ report. report.swept ≡ 0)) }
+    ensures sure { S.sure source.now (place + len) → min (1024 * grain) len ≤ length room.old
+        → IfOk result (λ found. IsSome found) }
     ensures bad_workers { (fault : BoardFault) → IsWorkersFault workers fault → result ≡ Err fault }
     ensures refused { 0 < workers → workers ≤ 64
         → (fault : BoardFault) → IsGrainFault len grain fault → result ≡ Err fault }
@@ -92,8 +96,12 @@ pub fn hash_source<R: Threads + Wait + Sync, S: Source + Sync, G: Gate + Sync>(
         len,
         mode,
         first,
+        grain,
         spans,
     };
+    if room.len() < reading.longest() {
+        return Ok(None);
+    }
     // The proof of this call picks what is known of the source, its mode and its first chunk for those that `Brand`
     // names.
     read_on::<R, Brand, S, G>(rt, alloc, &reading, workers, room, gate, Blank::new(128))
@@ -112,8 +120,11 @@ fn read_on<R: Threads + Wait + Sync, L: Sourced + Send + Sync, S: Source + Sync,
     requires name { blank.name ≡ L.name }
     requires parts { blank.parts ≡ L.parts }
     requires whole { L.parts ≡ 128 }
-    requires own { IsNamed L.input L.mode L.first
-        (region (S.told reading.now.source.now) reading.now.place reading.now.len) reading.now.mode reading.now.first }
+    requires own { IsNamed L.input L.mode L.first L.sure
+        (region (S.told reading.now.source.now) reading.now.place reading.now.len) reading.now.mode reading.now.first
+        (S.sure reading.now.source.now (reading.now.place + reading.now.len)) }
+    requires grain { reading.now.grain ≡ L.grain }
+    requires room { min (1024 * reading.now.grain) reading.now.len ≤ length room.old }
     requires some { 0 < workers }
     requires few { workers ≤ 64 }
     ensures root { IfOk result (λ found. IfSome found (λ report. IsRootOf L.input L.mode L.first report.root.node)) }
@@ -123,37 +134,68 @@ fn read_on<R: Threads + Wait + Sync, L: Sourced + Send + Sync, S: Source + Sync,
     ensures shares { IfOk result (λ found. IfSome found (λ report. length report.shares.items ≡ workers)) }
     ensures all { IfOk result (λ found. IfSome found (λ report. sum report.shares.items ≡ chunks reading.now.len)) }
     ensures swept { IfOk result (λ found. IfSome found (λ report. report.swept ≡ 0)) }
+    ensures sure { L.sure → IfOk result (λ found. IsSome found) }
     ensures only { IfErr result (λ fault. fault ≡ Memory) }
 {
     let extent = Extent::new(reading.len, reading.mode);
-    let (board, mut share) = SourceBoard::<L>::open(
-        alloc,
-        extent,
-        reading.spans.as_slice(),
-        blank,
-    )?;
-    let (claims, mut seat) = Claims::new(alloc, reading.count())?;
+    let spans = reading.spans.as_slice();
+    let (board, share) = SourceBoard::<L>::open(alloc, extent, spans, blank)?;
     let board = Mutex::new(board);
-    let threads = thread_count(reading.count(), chunks(reading.len), workers as usize, gate);
+    let joined = run_all(rt, alloc, reading, &board, share, workers, room, gate)?;
+    let Some((root, rest)) = finish(board.into_inner(), reading, room, joined.share) else {
+        return Ok(None);
+    };
+    let mut shares = joined.shares;
+    add_to_first(&mut shares, rest);
+    Ok(Some(Report {
+        root,
+        claimed: joined.claimed,
+        shares,
+        swept: 0,
+    }))
+}
+
+// Deals out seats, shares and the room, runs the workers, and joins what they hold.
+fn run_all<R: Threads + Wait + Sync, L: Sourced + Send + Sync, S: Source + Sync, G: Gate + Sync>(
+    rt: &R,
+    alloc: Global,
+    reading: &Reading<S>,
+    board: &Mutex<SourceBoard<L>>,
+    mut share: Share<L>,
+    workers: u32,
+    room: &mut [u8],
+    gate: &G,
+) -> Result<Joined<L>, BoardFault>
+    requires own { IsNamed L.input L.mode L.first L.sure
+        (region (S.told reading.now.source.now) reading.now.place reading.now.len) reading.now.mode reading.now.first
+        (S.sure reading.now.source.now (reading.now.place + reading.now.len)) }
+    requires new { (share.parts ≡ 128) × (share.chunks ≡ 0) }
+    requires some { 0 < workers }
+    requires few { workers ≤ 64 }
+    ensures whole { IfOk result (λ joined. joined.share.parts ≡ 128) }
+    ensures claimed { IfOk result (λ joined. HasEachOnce (length reading.now.spans.items) joined.claimed.items) }
+    ensures shares { IfOk result (λ joined. length joined.shares.items ≡ workers) }
+    ensures chunks { IfOk result (λ joined. joined.share.chunks ≡ sum joined.shares.items) }
+    ensures only { IfErr result (λ fault. fault ≡ Memory) }
+{
+    let (claims, mut seat) = Claims::new(alloc, reading.count())?;
+    let fitting = (room.len() / reading.longest().max(1)).max(1);
+    let threads = thread_count(
+        reading.count(),
+        chunks(reading.len),
+        fitting.min(workers as usize),
+        gate,
+    );
     let mut hands = deal(alloc, &claims, &mut seat, &mut share, threads, room)?;
-    run(rt, reading, &board, &claims, hands.as_mut_slice(), gate);
-    let joined = join_up(
+    run(rt, reading, board, &claims, hands.as_mut_slice(), gate);
+    Ok(join_up(
         claims,
         reading.spans.as_slice(),
         seat,
         share,
         hands,
         workers as usize,
-    );
-    let Some(root) = finish(board.into_inner(), joined.share) else {
-        return Ok(None);
-    };
-    Ok(Some(Report {
-        root,
-        claimed: joined.claimed,
-        shares: joined.shares,
-        swept: 0,
-    }))
+    ))
 }
 
 // Runs the workers, each in a thread of its own, which lends it its seat and its share.
@@ -165,8 +207,9 @@ fn run<R: Threads + Wait + Sync, L: Sourced + Send + Sync, S: Source + Sync, G: 
     hands: &mut [Hand<'_, L>],
     gate: &G,
 )
-    requires reading { IsNamed L.input L.mode L.first
-        (region (S.told reading.now.source.now) reading.now.place reading.now.len) reading.now.mode reading.now.first }
+    requires reading { IsNamed L.input L.mode L.first L.sure
+        (region (S.told reading.now.source.now) reading.now.place reading.now.len) reading.now.mode reading.now.first
+        (S.sure reading.now.source.now (reading.now.place + reading.now.len)) }
     requires count { claims.now.count ≡ length reading.now.spans.items }
     requires some { 0 < length hands.old }
     requires each { All (IsNewHand claims.now) hands.old }
@@ -181,9 +224,10 @@ fn run<R: Threads + Wait + Sync, L: Sourced + Send + Sync, S: Source + Sync, G: 
         hands,
         count,
         &|number, hand: &mut Hand<'_, L>|
-            requires { IsNamed L.input L.mode L.first
+            requires { IsNamed L.input L.mode L.first L.sure
                 (region (S.told reading.now.source.now) reading.now.place reading.now.len)
                 reading.now.mode reading.now.first
+                (S.sure reading.now.source.now (reading.now.place + reading.now.len))
                 × (claims.now.count ≡ length reading.now.spans.items)
                 × IsSeatOf claims.now hand.now.seat }
             ensures { HasRun claims.entry.now reading.entry.now.spans.items hand.entry.now hand.exit.now }
@@ -203,13 +247,64 @@ fn run<R: Threads + Wait + Sync, L: Sourced + Send + Sync, S: Source + Sync, G: 
     );
 }
 
-// The root of a board of which no worker has a share any more; none where some span is open.
-fn finish<L: Sourced>(mut board: SourceBoard<L>, mut share: Share<L>) -> Option<Root>
-    requires { share.parts ≡ 128 }
-    ensures root { IfSome result (λ root. IsRootOf L.input L.mode L.first root.node) }
-    ensures kept { IfSome result (λ root. root.kept ≡ true) }
-    ensures all { IfSome result (λ root. share.chunks ≡ chunks L.input.len) }
+// The root of a board of which no worker has a share any more, and the chunks that none of them deposited, though none
+// gave up a span: these are read here. None where some span could not be read.
+fn finish<L: Sourced, S: Source>(
+    mut board: SourceBoard<L>,
+    reading: &Reading<S>,
+    room: &mut [u8],
+    mut share: Share<L>,
+) -> Option<(Root, u64)>
+    requires own { IsNamed L.input L.mode L.first L.sure
+        (region (S.told reading.now.source.now) reading.now.place reading.now.len) reading.now.mode reading.now.first
+        (S.sure reading.now.source.now (reading.now.place + reading.now.len)) }
+    requires grain { reading.now.grain ≡ L.grain }
+    requires room { min (1024 * reading.now.grain) reading.now.len ≤ length room.old }
+    requires whole { share.parts ≡ 128 }
+    ensures root { IfSome result (λ found. IsRootOf L.input L.mode L.first found.0.node) }
+    ensures kept { IfSome result (λ found. found.0.kept ≡ true) }
+    ensures all { IfSome result (λ found. share.chunks + found.1 ≡ chunks L.input.len) }
+    ensures sure { L.sure → IsSome result }
 {
+    if board.is_given_up() {
+        return None;
+    }
+    let before = share.chunks();
+    if !read_open(&mut board, reading, room, &mut share) {
+        return None;
+    }
     board.audit(&mut share);
-    board.root()
+    let Some(root) = board.root() else {
+        return None;
+    };
+    Some((root, share.chunks() - before))
+}
+
+// Reads and closes every open span; false where one could not be read. No run has left one open, but a board behind a
+// lock tells no more than its laws.
+fn read_open<L: Sourced, S: Source>(
+    board: &mut SourceBoard<L>,
+    reading: &Reading<S>,
+    room: &mut [u8],
+    share: &mut Share<L>,
+) -> bool
+    requires own { IsNamed L.input L.mode L.first L.sure
+        (region (S.told reading.now.source.now) reading.now.place reading.now.len) reading.now.mode reading.now.first
+        (S.sure reading.now.source.now (reading.now.place + reading.now.len)) }
+    requires grain { reading.now.grain ≡ L.grain }
+    requires room { min (1024 * reading.now.grain) reading.now.len ≤ length room.old }
+    ensures none { IsTrue result → board.new.open_spans ≡ [] }
+    ensures parts { share.new.parts ≡ share.old.parts }
+    ensures grown { share.old.chunks ≤ share.new.chunks }
+    ensures sure { L.sure → IsTrue result }
+{
+    'spans: while let Some(span) = board.open_span() {
+        let Ok(read) = reading.read(span, room) else {
+            return false;
+        };
+        let Ok(()) = board.deposit(read, share) else {
+            return false;
+        };
+    }
+    true
 }

@@ -1,19 +1,22 @@
 // A part of a source, cut into spans: workers read the spans that they claim by themselves.
 
-ghost use Rattle.std.specs.Prelude.{◌≡◌, ℕ, ◌+◌, ◌<◌, ◌≤◌, ◌^◌, List, length, Some};
+ghost use Rattle.std.specs.Prelude.{◌≡◌, ℕ, ◌+◌, ◌-◌, ◌*◌, ◌<◌, ◌≤◌, ◌^◌, min, List, All, length, Some, IsOk};
 ghost use Rattle.b3_core.specs.Tree.{chunks};
 ghost use Rattle.b3_board.specs.Plans.{IsCutting};
 ghost use Rattle.b3_board.specs.Spans.{chunks_in};
-ghost use Rattle.b3_board.specs.Regions.{IsNamed, region};
+ghost use Rattle.b3_board.specs.Regions.{IsNamed, region, span_of_read};
 
 use crate::course::Course;
 use crate::share::Share;
 use crate::source::Source;
 use crate::source_board::SourceBoard;
-use crate::sourced::{ReadDone, Sourced};
-use b3_core::{CHUNK_LEN, Mode, Span};
+use crate::sourced::{ReadDone, Sourced, Unread};
+use b3_core::{Mode, Span};
 
-// So many bytes of a source from a place on, with a mode, the number of their first chunk, and their cutting.
+const CHUNK_LEN: u64 = b3_core::CHUNK_LEN as u64;
+
+// So many bytes of a source from a place on, with a mode, the number of their first chunk, and their cutting into spans
+// of no more than `grain` chunks.
 #[derive(Drop)]
 pub(crate) struct Reading<'s, S: Source> {
     pub(crate) source: &'s S,
@@ -21,13 +24,16 @@ pub(crate) struct Reading<'s, S: Source> {
     pub(crate) len: u64,
     pub(crate) mode: Mode,
     pub(crate) first: u64,
+    pub(crate) grain: u64,
     pub(crate) spans: Vec<Span>,
     ghost few: { len ≤ 2 ^ 30 },
     ghost low: { first + chunks len ≤ 2 ^ 54 },
     ghost end: { place + len < 2 ^ 64 },
     ghost there: { (all : List ℕ) → S.told source.now ≡ Some all → place + len ≤ length all },
+    ghost small: { grain ≤ 2 ^ 20 },
     ghost cutting: { IsCutting (chunks len) spans.items },
     ghost few_spans: { length spans.items ≤ 1024 },
+    ghost few_a_span: { All (λ span. span.count ≤ grain) spans.items },
 }
 
 impl<'s, S: Source> Reading<'s, S> {
@@ -40,41 +46,86 @@ impl<'s, S: Source> Reading<'s, S> {
     {
         self.spans.len()
     }
+
+    // What the room for any of the spans takes.
+    pub(crate) fn longest(&self) -> usize
+        ensures { result ≡ min (1024 * self.now.grain) self.now.len }
+    {
+        (CHUNK_LEN * self.grain).min(self.len) as usize
+    }
+
+    // The number of bytes in a span.
+    fn span_len(&self, span: Span) -> usize
+        requires inside { span.first + span.count ≤ chunks self.now.len }
+        requires some { 0 < span.count }
+        ensures { result ≡ min (1024 * span.count) (self.now.len - 1024 * span.first) }
+    {
+        let start = CHUNK_LEN * span.first;
+        (CHUNK_LEN * span.count).min(self.len - start) as usize
+    }
+
+    // Reads a span into the room, and hashes it there.
+    pub(crate) fn read<L: Sourced>(
+        &self,
+        span: Span,
+        room: &mut [u8],
+    ) -> Result<ReadDone<L>, Unread<L>>
+        requires own { IsNamed L.input L.mode L.first L.sure
+            (region (S.told self.now.source.now) self.now.place self.now.len) self.now.mode self.now.first
+            (S.sure self.now.source.now (self.now.place + self.now.len)) }
+        requires inside { span.first + span.count ≤ chunks self.now.len }
+        requires some { 0 < span.count }
+        requires room { min (1024 * span.count) (self.now.len - 1024 * span.first) ≤ length room.old }
+        ensures span { span_of_read result ≡ span }
+        ensures sure { L.sure → IsOk result }
+    {
+        let start = CHUNK_LEN * span.first;
+        let len = self.span_len(span);
+        let room = &mut room[..len];
+        let Some(count) = self.source.read_at(self.place + start, room) else {
+            return Err(Unread::new(span));
+        };
+        if count < len {
+            return Err(Unread::new(span));
+        }
+        Ok(ReadDone::of_bytes(room, &self.mode, self.first, span))
+    }
 }
 
 impl<'s, S: Source, L: Sourced> Course<L, SourceBoard<L>> for Reading<'s, S> {
-    type Done = ReadDone<L>;
+    type Done = Result<ReadDone<L>, Unread<L>>;
 
     ghost spans = { λ reading. reading.spans.items };
 
-    ghost is_own = { λ reading. IsNamed L.input L.mode L.first
-        (region (S.told reading.source.now) reading.place reading.len) reading.mode reading.first };
+    ghost is_own = { λ reading. IsNamed L.input L.mode L.first L.sure
+        (region (S.told reading.source.now) reading.place reading.len) reading.mode reading.first
+        (S.sure reading.source.now (reading.place + reading.len)) };
 
-    ghost span_of = { λ done. done.span };
+    ghost span_of = { span_of_read };
 
     fn span_count(&self) -> usize {
         self.count()
     }
 
-    // Reads the span into the room, and hashes it there.
-    fn hash(&self, i: usize, room: &mut [u8]) -> Option<ReadDone<L>> {
+    fn hash(&self, i: usize, room: &mut [u8]) -> Option<Result<ReadDone<L>, Unread<L>>> {
         let span = self.spans.as_slice()[i];
-        let start = CHUNK_LEN as u64 * span.first;
-        let len = (CHUNK_LEN as u64 * span.count).min(self.len - start) as usize;
-        if room.len() < len {
+        if room.len() < self.span_len(span) {
             return None;
         }
-        let room = &mut room[..len];
-        let Some(count) = self.source.read_at(self.place + start, room) else {
-            return None;
-        };
-        if count < len {
-            return None;
-        }
-        Some(ReadDone::of_bytes(room, &self.mode, self.first, span))
+        Some(self.read(span, room))
     }
 
-    fn deposit(&self, board: &mut SourceBoard<L>, done: ReadDone<L>, share: &mut Share<L>) {
-        let _refused = board.deposit(done, share);
+    fn deposit(
+        &self,
+        board: &mut SourceBoard<L>,
+        done: Result<ReadDone<L>, Unread<L>>,
+        share: &mut Share<L>,
+    ) {
+        match done {
+            Ok(read) => {
+                let _refused = board.deposit(read, share);
+            }
+            Err(unread) => board.give_up(unread),
+        }
     }
 }

@@ -1,33 +1,34 @@
 // A board over a source: the same entries and the same account as a board over an input in memory.
 
-ghost use Rattle.std.specs.Prelude.{◌≡◌, ◌↔◌, ◌≤◌, ◌^◌, true, [], Contains, IfErr, IfOk, IfSome, IsOk, IsSome, OnErr, OnOk};
+ghost use Rattle.std.specs.Prelude.{◌≡◌, ◌↔◌, ◌+◌, ◌<◌, ◌≤◌, ◌^◌, true, [], All, Contains, IfErr, IfNone, IfOk, IfSome, IsOk, IsSome, IsTrue, OnErr, OnOk};
 ghost use Rattle.b3_core.specs.Tree.{chunks};
 ghost use Rattle.b3_board.specs.Pictures.{IsDeposit, IsLawfulOver, begun};
 ghost use Rattle.b3_board.specs.Plans.{IsCutting};
 ghost use Rattle.b3_board.specs.Shares.{grown};
 ghost use Rattle.b3_board.specs.Spans.{IsRootOf};
 
-use crate::entries::{Entry, KeptNode, find_open, opened};
+use crate::entries::{Entry, KeptNode, find_open, nth_open, opened};
 use crate::merging::{root_of, settle};
 use crate::root::Root;
 use crate::share::{Account, Share};
-use crate::sourced::{Extent, ReadDone, Sourced};
+use crate::sourced::{Extent, ReadDone, Sourced, Unread};
 use b3_core::Span;
 use std::alloc::{AllocError, Global};
 use std::marker::Model;
 use std::sync::ledger::Blank;
 
 // A board over what its type names of an input: it holds no byte of it, so that it takes only work of its own, and
-// sweeps nothing.
+// sweeps nothing. It keeps in mind that a span could not be read.
 #[derive(Drop)]
 pub(crate) struct SourceBoard<L: Sourced> {
     extent: Extent<L>,
     entries: Vec<Entry>,
     account: Account<L>,
+    unread: Option<Span>,
 }
 
 impl<L: Sourced> Model for SourceBoard<L> {
-    ghost use Rattle.b3_board.specs.Entries.{KeepsEntries, open_spans, pieces};
+    ghost use Rattle.b3_board.specs.Entries.{KeepsSourceBoard, open_spans, pieces};
     ghost use Rattle.b3_board.specs.Pictures.{Picture};
     ghost use Rattle.b3_board.specs.Spans.{Known};
 
@@ -42,7 +43,8 @@ impl<L: Sourced> Model for SourceBoard<L> {
       book = board.account.chunks;
     } };
 
-    ghost invariant = { λ board. KeepsEntries L.input L.mode L.first board.entries.items board.account.chunks };
+    ghost invariant = { λ board. KeepsSourceBoard L.input L.mode L.first L.grain L.sure
+        board.entries.items board.account.chunks board.unread };
 }
 
 impl<L: Sourced> SourceBoard<L> {
@@ -58,6 +60,7 @@ impl<L: Sourced> SourceBoard<L> {
         requires parts { blank.parts ≡ L.parts }
         requires whole { L.parts ≡ 128 }
         requires cutting { IsCutting (chunks L.input.len) spans.now }
+        requires few { All (λ span. span.count ≤ L.grain) spans.now }
         ensures board { IfOk result (λ made. made.0 ≡ begun L.input L.mode L.first spans.now) }
         ensures share { IfOk result (λ made. made.1 ≡ record { parts = 128; chunks = 0 }) }
         ensures lawful { IfOk result (λ made. IsLawfulOver L.input made.0) }
@@ -68,6 +71,7 @@ impl<L: Sourced> SourceBoard<L> {
             extent,
             entries,
             account,
+            unread: None,
         };
         Ok((board, share))
     }
@@ -99,6 +103,31 @@ impl<L: Sourced> SourceBoard<L> {
         };
         settle(self.entries.as_mut_slice(), &self.extent, place, kept);
         Ok(())
+    }
+
+    // Keeps in mind that a span could not be read.
+    pub(crate) fn give_up(&mut self, unread: Unread<L>)
+        ensures { self.new ≡ self.old }
+    {
+        self.unread = Some(unread.span);
+    }
+
+    // Whether a span could not be read.
+    pub(crate) fn is_given_up(&self) -> bool
+        ensures { IsTrue result → ¬ L.sure }
+    {
+        self.unread.is_some()
+    }
+
+    // The first open span.
+    pub(crate) fn open_span(&self) -> Option<Span>
+        ensures open { IfSome result (λ span. Contains self.now.open_spans span) }
+        ensures none { IfNone result (self.now.open_spans ≡ []) }
+        ensures inside { IfSome result (λ span. span.first + span.count ≤ chunks L.input.len) }
+        ensures some { IfSome result (λ span. 0 < span.count) }
+        ensures few { IfSome result (λ span. span.count ≤ L.grain) }
+    {
+        nth_open(self.entries.as_slice(), 0)
     }
 
     // Changes nothing, and tells that a share of all 128 parts has all deposited chunks.

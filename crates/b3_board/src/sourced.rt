@@ -10,14 +10,20 @@ use b3_core::{Mode, Node, Span, chunks, top};
 use std::marker::{Brand, Model, PhantomData};
 use std::sync::ledger::Ledger;
 
-// What a board over a source is over: what is known of an input, a mode and the number of the first chunk. The call
-// that opens the board's ledger picks them.
+// What a board over a source is over: what is known of an input, a mode, the number of the first chunk, how long a span
+// may be, and whether the source is sure. The call that opens the board's ledger picks them.
 pub(crate) trait Sourced: Ledger {
     ghost input: { Known };
 
     ghost mode: { Mode };
 
     ghost first: { ℕ };
+
+    // the most chunks in a span
+    ghost grain: { ℕ };
+
+    // that all the input's bytes can be read
+    ghost sure: { Type 0 };
 }
 
 // Not what a board at `Brand` is over: the proof of `hash_source` picks what is known of its source.
@@ -27,6 +33,10 @@ impl Sourced for Brand {
     ghost mode = { record { key = []; flag = 0 } };
 
     ghost first = { 0 };
+
+    ghost grain = { 0 };
+
+    ghost sure = { ⊥ };
 }
 
 // The named input's number of bytes, and its mode.
@@ -108,6 +118,35 @@ impl<L: Sourced> ReadDone<L> {
             span,
             node,
             chaining_value: node.chaining(),
+            of: PhantomData,
+        }
+    }
+}
+
+// A span of the named input that could not be read whole, which shows that its source is not sure.
+#[derive(Drop)]
+pub(crate) struct Unread<L: Sourced> {
+    pub(crate) span: Span,
+    of: PhantomData<L>,
+}
+
+impl<L: Sourced> Model for Unread<L> {
+    ghost use Rattle.b3_core.specs.declared.tree.Span.{Span};
+
+    ghost Value = { Span };
+
+    ghost view = { λ unread. unread.span };
+
+    ghost invariant = { λ _. ¬ L.sure };
+}
+
+impl<L: Sourced> Unread<L> {
+    pub(crate) fn new(span: Span) -> Unread<L>
+        requires { ¬ L.sure }
+        ensures { result ≡ span }
+    {
+        Unread {
+            span,
             of: PhantomData,
         }
     }

@@ -77,8 +77,8 @@ pub(crate) fn work<R: Wait, L: Ledger, B, C: Course<L, B>, G: Gate + Sync>(
     }
 }
 
-// Hashes span `i` without the lock, passes the gate and deposits under the lock. A span whose bytes cannot be had stays
-// open.
+// Hashes span `i` without the lock, passes the gate and deposits under the lock. A span for which the room is too short
+// stays open.
 fn hash_span<R: Wait, L: Ledger, B, C: Course<L, B>, G: Gate + Sync>(
     rt: &R,
     course: &C,

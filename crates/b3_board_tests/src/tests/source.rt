@@ -1,6 +1,6 @@
 // Runs over sources, of which each worker reads the spans that it claims.
 
-ghost use Rattle.std.specs.Prelude.{Some, None};
+ghost use Rattle.std.specs.Prelude.{◌≤◌, length, Some, None};
 
 use super::memory::last_growth;
 use super::pattern;
@@ -14,7 +14,7 @@ use std::sync::atomic::{AtomicU64, Ordering};
 use std::test::Fail;
 use std::thread::{self, Threads};
 
-// Bytes in memory that are told.
+// Bytes in memory that are told, and read for sure.
 #[derive(Drop)]
 struct Told<'a> {
     bytes: &'a [u8],
@@ -22,6 +22,8 @@ struct Told<'a> {
 
 impl<'a> Source for Told<'a> {
     ghost told = { λ source. Some source.bytes.now };
+
+    ghost sure = { λ source end. end ≤ length source.bytes.now };
 
     fn read_at(&self, place: u64, room: &mut [u8]) -> Option<usize> {
         let rest = &self.bytes[self.bytes.len().min(place as usize)..];
@@ -61,6 +63,8 @@ impl<'a> Silent<'a> {
 impl<'a> Source for Silent<'a> {
     ghost told = { λ source. None };
 
+    ghost sure = { λ _ _. ⊥ };
+
     fn read_at(&self, place: u64, room: &mut [u8]) -> Option<usize> {
         let rest = &self.bytes[self.bytes.len().min(place as usize)..];
         let count = rest.len().min(room.len());
@@ -86,6 +90,8 @@ struct Meeting<'a> {
 
 impl<'a> Source for Meeting<'a> {
     ghost told = { λ source. None };
+
+    ghost sure = { λ _ _. ⊥ };
 
     fn read_at(&self, place: u64, room: &mut [u8]) -> Option<usize> {
         let rest = &self.bytes[self.bytes.len().min(place as usize)..];
@@ -184,21 +190,29 @@ fn each_length_around_spans(rt: HostRuntime) -> Result<(), Fail> {
     Ok(())
 }
 
-// The second of two regions: its chunks are numbered from its own first.
+// The second of two regions: its chunks are numbered from its own first, and what stands behind it is not read.
 #[test]
-fn a_region_behind_another(rt: HostRuntime) -> Result<(), Fail> {
-    let input = pattern(rt.alloc(), 13 * 1024 + 7)?;
+fn each_length_of_a_region_behind_another(rt: HostRuntime) -> Result<(), Fail> {
+    let input = pattern(rt.alloc(), 14 * 1024)?;
     let all = input.as_slice();
-    let source = Silent::new(all, u64::MAX, Bad::Refused);
-    let found = read_part(
-        &rt,
-        rt.alloc(),
-        &source,
-        (8 * 1024, 5 * 1024 + 7),
-        3,
-        &Yielding,
-    )?;
-    assert_read(&rt, found, &all[8 * 1024..], 8, 3);
+    for len in [
+        1usize, 1023, 1024, 1025, 2047, 2048, 2049, 4095, 4096, 4097, 5127, 6143, 6144,
+    ] {
+        assert!(&rt; len <= 6 * 1024);
+        let part = &all[8 * 1024..8 * 1024 + len];
+        for workers in [1u32, 2, 3, 4, 64] {
+            let source = Silent::new(all, u64::MAX, Bad::Refused);
+            let found = read_part(
+                &rt,
+                rt.alloc(),
+                &source,
+                (8 * 1024, len as u64),
+                workers,
+                &Yielding,
+            )?;
+            assert_read(&rt, found, part, 8, workers);
+        }
+    }
     Ok(())
 }
 
@@ -227,6 +241,45 @@ fn too_few_bytes(rt: HostRuntime) -> Result<(), Fail> {
         &OpenGate,
     )?;
     assert!(&rt; found.is_none());
+    Ok(())
+}
+
+// No more workers run than the room has spans for: one here, of four.
+#[test]
+fn a_room_for_one_span(rt: HostRuntime) -> Result<(), Fail> {
+    let bytes = [7; 9000];
+    let told = Told { bytes: &bytes };
+    let mut room = [0; 4095];
+    let found = hash_source(
+        &rt,
+        rt.alloc(),
+        &told,
+        0,
+        9000,
+        Mode::hash(),
+        0,
+        2,
+        4,
+        &mut room,
+        &Yielding,
+    )?;
+    let report = found.expect(&rt, "a root");
+    assert_eq!(&rt; report.shares.as_slice(), [9u64, 0, 0, 0].as_slice());
+    assert_read(&rt, Some(report), &bytes, 0, 4);
+    Ok(())
+}
+
+// Each span is read once: none is left to the call that started the workers.
+#[test]
+fn two_readers_a_thousand_times(rt: HostRuntime) -> Result<(), Fail> {
+    let input = pattern(rt.alloc(), 64 * 1024)?;
+    let all = input.as_slice();
+    for _ in 0..1000usize {
+        let source = Silent::new(all, u64::MAX, Bad::Refused);
+        let found = read_part(&rt, rt.alloc(), &source, (0, 64 * 1024), 2, &Yielding)?;
+        assert_read(&rt, found, all, 0, 2);
+        assert_eq!(&rt; source.reads.load(Ordering::SeqCst), 32);
+    }
     Ok(())
 }
 

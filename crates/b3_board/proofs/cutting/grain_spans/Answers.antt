@@ -1,7 +1,9 @@
-use Rattle.std.proofs.Common.{ℕ, ◌≡◌, map, length, rules, arith, sym, subst, ap, ◌∙◌}
+use Rattle.std.proofs.Common.{ℕ, ◌≡◌, ◌≤◌, map, length, rules, arith, sym, subst, ap, ◌∙◌}
 use Rattle.std.specs.Int.{div_ceil}
-use Rattle.std.specs.List.{range_with_len}
+use Rattle.std.specs.List.{All, range_with_len}
+use Rattle.std.proofs.lemmas.List.Elements.{All-map}
 use Rattle.std.proofs.lemmas.List.FromFn.{length-map-range_with_len, map-range_with_len_more}
+use Rattle.b3_core.specs.declared.tree.Span.{Span}
 use Rattle.b3_board.specs.Plans.{IsCutting, grain_span, grain_spans}
 use Rattle.b3_board.proofs.Cuttings.{grain_cutting}
 use Rattle.b3_board.proofs.cutting.grain_spans.Goals as goal
@@ -37,3 +39,9 @@ returns-clause-len c =
       c.div_ceil-count.ensures,
     ) in
     ap length c.loop-i.invariant ∙ length-map-range_with_len (grain_span c.args.n c.args.grain) 0 c.loop-i.i ∙ count
+
+pub returns-clause-each : goal.returns-clause-each
+returns-clause-each c =
+    subst (All (λ (s : Span). s.count ≤ c.args.grain)) (sym c.loop-i.invariant)
+    (All-map (λ (s : Span). s.count ≤ c.args.grain) (grain_span c.args.n c.args.grain) (range_with_len 0 c.loop-i.i)
+    (λ k d lt. omega arith))

@@ -4,14 +4,14 @@ use Rattle.std.proofs.lemmas.List.{with_items_is}
 use Rattle.std.specs.List.{Contains}
 use Rattle.std.specs.Vec.{with_items}
 use Rattle.b3_core.specs.declared.tree.Span.{Span}
-use Rattle.b3_board.specs.Entries.{at, kept_chunk, kept_count, open_span}
+use Rattle.b3_board.specs.Entries.{KeepsSourceBoard, at, kept_chunk, kept_count, open_span}
 use Rattle.b3_board.specs.Pictures.{IsDeposit, IsLawfulOver, Picture, Piece}
 use Rattle.b3_board.specs.declared.entries.Entry.{Entry}
 use Rattle.b3_board.specs.Spans.{IsNodeOf, Known, has}
 use Rattle.b3_board.specs.declared.entries.State.TheVariants.{Open}
 use Rattle.b3_board.proofs.Deposits.{Contains-open, deposited, not_open}
 use Rattle.b3_board.proofs.Picturing.{lawful_over, picture_of}
-use Rattle.b3_board.proofs.OpenSpans.{same_length}
+use Rattle.b3_board.proofs.OpenSpans.{open_count-closed, same_length}
 use Rattle.b3_board.proofs.source_board.SourceBoard.deposit.Goals as goal
 
 pub returns-in_default-clause-ok : goal.returns-in_default-clause-ok
@@ -89,6 +89,32 @@ returns-clause-lawful g c =
     subst P (sym items)
     (lawful_over l.input l.mode l.first c.settle.new.entries c.settle.ensures.lawful l.input
     c.credit.new.self.chunks booked)
+
+pub invariant_of-self : goal.invariant_of-self
+invariant_of-self g c =
+    let board = c.self.inside in
+    let l = g.L.Sourced in
+    let found = rw c.as_slice.ensures.value at c.in-Some.ensures.found in
+    let count : sum_by kept_count c.settle.new.entries
+    ≡ sum_by kept_count board.entries.items + (at board.entries.items c.in-Some.place).span.count =
+    search (rules, c.settle.ensures.count, c.as_mut_slice.ensures.value) in
+    let opens : map open_span c.settle.new.entries ≡ set (map open_span board.entries.items) c.in-Some.place None =
+    search (rules, c.settle.ensures.opens, c.as_mut_slice.ensures.value) in
+    let items : (with_items board.entries c.settle.new.entries).items ≡ c.settle.new.entries =
+    with_items_is board.entries c.settle.new.entries
+    (same_length board.entries.items c.settle.new.entries c.in-Some.place opens ∙ sym board.entries.ok.0) in
+    let P : List Entry → Type 0 =
+    λ es. KeepsSourceBoard l.input l.mode l.first l.grain l.sure es c.credit.new.self.chunks board.unread in
+    subst P (sym items) (record {
+      lawful = c.settle.ensures.lawful;
+      booked = omega (arith, count, c.self.invariant.booked, c.credit.ensures.chunks, ap (λ (s : Span). s.count) found.2);
+      few = λ i. omega (
+        arith,
+        open_count-closed board.entries.items c.settle.new.entries c.in-Some.place found.0 opens i,
+        c.self.invariant.few i,
+      );
+      missed = c.self.invariant.missed;
+    })
 
 pub settle-requires-clause-top : goal.settle-requires-clause-top
 settle-requires-clause-top g c =

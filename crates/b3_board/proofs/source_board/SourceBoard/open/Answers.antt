@@ -1,6 +1,9 @@
-use Rattle.std.proofs.Common.{◌≡◌, [], map, sum_by, sym, subst, ap, ◌∙◌}
-use Rattle.b3_board.specs.Entries.{Lawful, fresh, kept_count, open_spans, pieces}
-use Rattle.b3_board.proofs.Cuttings.{kept_none, lawful_new, open_spans-fresh, pieces-fresh}
+use Rattle.std.proofs.Common.{◌≡◌, ◌≤◌, List, [], map, sum_by, sym, subst, ap, ◌∙◌}
+use Rattle.std.proofs.lemmas.Bool.{false≢true}
+use Rattle.b3_core.specs.Tree.{chunks}
+use Rattle.b3_board.specs.declared.entries.Entry.{Entry}
+use Rattle.b3_board.specs.Entries.{Lawful, at, fresh, kept_count, open_count, open_spans, pieces}
+use Rattle.b3_board.proofs.Cuttings.{kept_none, lawful_new, open_count-fresh, open_spans-fresh, pieces-fresh}
 use Rattle.b3_board.proofs.Picturing.{lawful_over}
 use Rattle.b3_board.proofs.source_board.SourceBoard.open.Goals as goal
 
@@ -13,6 +16,9 @@ invariant_of-board g c =
       lawful = subst (Lawful l.input l.mode l.first) (sym items)
           (lawful_new l.input l.mode l.first spans c.requires.cutting);
       booked = ap (sum_by kept_count) items ∙ kept_none spans ∙ sym c.open-account.ensures.chunks;
+      few = λ i. subst (λ (es : List Entry). open_count (at es i) ≤ l.grain) (sym items)
+          (open_count-fresh (chunks l.input.len) l.grain spans c.requires.cutting c.requires.few i);
+      missed = λ some sure. false≢true some;
     }
 
 pub returns-clause-board : goal.returns-clause-board
