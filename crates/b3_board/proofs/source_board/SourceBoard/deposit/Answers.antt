@@ -107,7 +107,13 @@ invariant_of-self g c =
     λ es. KeepsSourceBoard l.input l.mode l.first l.grain l.sure es c.credit.new.self.chunks board.unread in
     subst P (sym items) (record {
       lawful = c.settle.ensures.lawful;
-      booked = omega (arith, count, c.self.invariant.booked, c.credit.ensures.chunks, ap (λ (s : Span). s.count) found.2);
+      booked = omega (
+        arith,
+        count,
+        c.self.invariant.booked,
+        c.credit.ensures.chunks,
+        ap (λ (s : Span). s.count) found.2,
+      );
       few = λ i. omega (
         arith,
         open_count-closed board.entries.items c.settle.new.entries c.in-Some.place found.0 opens i,
