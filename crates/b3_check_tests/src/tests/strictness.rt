@@ -5,11 +5,11 @@ ghost use Rattle.std.specs.Prelude.{◌≡◌};
 ghost use Rattle.b3_check.specs.Options.{CanCheck};
 
 use crate::tests::random::{Chance, compare, files_at_random, list_at_random};
-use crate::tests::recording::{PieceSink, RecordedFiles};
+use crate::tests::recording::{File, PieceSink, RecordedFiles};
 use crate::tests::report::check_report;
 use crate::tests::{EMPTY, ONE_BYTE, check_options, joined, lines_tally};
 use b3_board::OpenGate;
-use b3_check::{CheckOptions, MemoryShelf, MemorySink, RunFault, Tally, run_check};
+use b3_check::{CheckOptions, MemorySink, RunFault, Tally, run_check};
 use std::alloc::Global;
 use std::process::Abort;
 use std::sync::Wait;
@@ -24,22 +24,28 @@ struct Came {
     err: String,
 }
 
+fn file(alloc: Global, name: &'static str, text: &str) -> Result<File, Fail> {
+    let content = Vec::from_slice(alloc, text.as_bytes())?;
+    Ok(File { name, content })
+}
+
 // Checks lists of these names and texts, over a file x of one byte.
 fn check<R: Abort + Threads + Wait + Sync>(
     rt: &R,
     alloc: Global,
-    lists: &[(&str, &str)],
+    lists: &[(&'static str, &str)],
     options: &CheckOptions,
 ) -> Result<Came, Fail>
     requires { CanCheck options.now }
 {
-    let mut shelf = MemoryShelf::new(alloc);
-    shelf.put("x", b"\0")?;
+    let mut files = Vec::new(alloc);
     let mut names = Vec::new(alloc);
+    files.push(file(alloc, "x", "\0")?)?;
     for (name, text) in lists {
-        shelf.put(name, text.as_bytes())?;
+        files.push(file(alloc, name, text)?)?;
         names.push(String::from_str(alloc, name)?)?;
     }
+    let mut shelf = RecordedFiles::new(alloc, files.as_slice(), usize::MAX, u64::MAX);
     let mut out = MemorySink::new(alloc);
     let mut err = MemorySink::new(alloc);
     assert!(rt; names.len() < 10);
