@@ -23,7 +23,7 @@ use std::alloc::Global;
 use std::marker::Model;
 use std::sync::ledger::Blank;
 
-/// A deposit that changed nothing, with what was to be deposited: refusals 6 and 7, the numbers behind those
+/// A deposit that changed nothing, with what was to be deposited: refusals 6 and 7, the numbers after those
 /// of `BoardFault`.
 #[derive(Drop)]
 pub enum Refused<'a> {

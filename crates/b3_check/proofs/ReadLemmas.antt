@@ -135,7 +135,7 @@ pub digest_none : (told : Option Contents) (sure : Bool) (name : List ℕ) (outp
     → IsDigestOf told sure name output (Err why)
 digest_none told sure name output why agrees = record { answer = Err why; agrees = agrees; is = refl }
 
--- ---- a read behind the first bytes of a room
+-- ---- a read after the first bytes of a room
 
 -- more bytes than a front has
 take-behind : (front back : List ℕ) (m n : ℕ) → length front ≡ m → take (m + n) (front ++ back) ≡ front ++ take n back

@@ -25,7 +25,7 @@ content_among-append (x ∷ xs) ys name =
     ≡ first_of_two (cond b (Some x.content.items) (content_among xs name)) (content_among ys name))
     [ true ↦ refl | false ↦ content_among-append xs ys name ]
 
--- nothing behind what was found
+-- nothing after what was found
 first_of_two-none : (found : Option (List ℕ)) → first_of_two found None ≡ found
 first_of_two-none None = refl
 first_of_two-none (Some x) = refl
@@ -180,7 +180,7 @@ gives_within content place count room within is_least some = record {
       );
 }
 
--- a read gives the bytes behind the place
+-- a read gives the bytes after the place
 pub gives_next : (content : List ℕ) (place count room : ℕ)
     → count ≡ min (length (drop (min place (length content)) content)) room → 0 < room
     → Gives (drop place content) (take count (drop (min place (length content)) content)) (drop (place + count) content)
@@ -226,7 +226,7 @@ shelf_gives files begun k place count m file content room copied begun_is within
     ap (λ n. take n (copied ++ drop count room)) (sym sized) ∙ take-append_seam copied (drop count room) ∙ given in
     rw (begun_is, stored, taken, m_is) (gives_next content place count (length room) (rw m_is at least) some)
 
--- the bytes from a place on, behind those that were given
+-- the bytes from a place on, after those that were given
 pub shelf_gives_at : (files : List StoredFile) (begun : Option ℕ) (k given place count : ℕ) (file : StoredFile)
     (content room copied : List ℕ)
     → begun ≡ Some k → k < length files → file ≡ get_or files k file → content ≡ file.content.items

@@ -161,7 +161,7 @@ list_script options list = Ask Listed list (lines_script options list)
 abbrev pub lists_script : CheckOptions → List (List ℕ) → Script
 lists_script options lists = in_turn (map (list_script options) lists)
 
--- the words behind the number of lines that failed
+-- the words after the number of lines that failed
 abbrev pub mismatches : ℕ → List ℕ
 mismatches failed =
     if failed == 1 then codes " computed checksum did NOT match" else codes " computed checksums did NOT match"

@@ -29,7 +29,7 @@ const MOST_ITEMS: usize = 4_096;
 /// A round looks at no further item once it has hashed so many bytes.
 const ROUND_LEN: usize = 1 << 25;
 
-/// How long a content may be that is hashed beside others, and a byte behind it that tells that it has ended.
+/// How long a content may be that is hashed beside others, and a byte after it that tells that it has ended.
 const ROOM_LEN: usize = (1 << 21) + 1;
 
 /// The node of the item at a place.

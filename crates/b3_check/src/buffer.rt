@@ -20,7 +20,7 @@ pub enum WindowSize {
     ForWorkers,
 }
 
-/// Memory for a window of 2^level chunks, filled from its front. Behind what is filled stand bytes of
+/// Memory for a window of 2^level chunks, filled from its front. After what is filled stand bytes of
 /// earlier windows; what was never read into is not touched.
 #[derive(Drop)]
 pub struct Buffer {
@@ -92,7 +92,7 @@ impl Buffer {
         self.filled = 0;
     }
 
-    /// Makes room for a read behind what is filled; bytes that are there are not written again.
+    /// Makes room for a read after what is filled; bytes that are there are not written again.
     pub fn make_room(&mut self) -> Result<(), AllocError>
         ensures room { OnOk result (self.new.filled + next_read self.new ≤ vec_len self.new.bytes) }
         ensures filled { self.new.filled ≡ self.old.filled }
@@ -106,7 +106,7 @@ impl Buffer {
         Ok(())
     }
 
-    /// One read, behind what is filled.
+    /// One read, after what is filled.
     pub fn read<S: Shelf>(&mut self, shelf: &mut S) -> Result<usize, CannotRead>
         requires some { self.old.filled < self.old.len }
         requires room { self.old.filled + next_read self.old ≤ vec_len self.old.bytes }

@@ -15,7 +15,7 @@ pub fn zeros(alloc: Global, len: usize) -> Result<Vec<u8>, AllocError>
     vec![in alloc; 0; len]
 }
 
-/// One read into the room behind its first `start` bytes, which asks for `len` bytes.
+/// One read into the room after its first `start` bytes, which asks for `len` bytes.
 pub fn read_at<S: Shelf>(
     shelf: &mut S,
     room: &mut [u8],

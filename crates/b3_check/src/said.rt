@@ -334,7 +334,7 @@ fn warning(alloc: Global, failed: u64) -> Result<Vec<u8>, AllocError>
     Ok(text)
 }
 
-// The words behind the number of names and lines that failed.
+// The words after the number of names and lines that failed.
 fn mismatches(failed: u64) -> &'static str
     ensures { result.now ≡ mismatches failed }
 {

@@ -2,7 +2,7 @@
 use Rattle.std.specs.Prelude.{◌≡◌, ℕ, List, [], ◌∷◌, ◌++◌, length, map, slice_index}
 use Rattle.b3_core.specs.Compression.{half_g}
 
--- the rows, one behind the other
+-- the rows, one after the other
 abbrev pub joined : List ℕ × List ℕ × List ℕ × List ℕ → List ℕ
 joined rows = rows.0 ++ rows.1 ++ rows.2 ++ rows.3
 

@@ -14,7 +14,7 @@ use Rattle.b3_core.proofs.Subtrees.{top-chunk, top-joined}
 use Rattle.b3_hash.specs.Stacks.{run, subtree}
 use Rattle.b3_hash.proofs.ChunkCounts.{bytes-suc, chunks-suc, whole-runs}
 
--- the bytes from a place behind the first n
+-- the bytes from a place after the first n
 pub drop-behind : (before bytes : List ℕ) (n more : ℕ) → length before ≡ n
     → drop (n + more) (before ++ bytes) ≡ drop more bytes
 drop-behind before bytes n more len =
@@ -64,7 +64,7 @@ subtree-suc level mode input i within =
     ap chaining (top-runs level mode whole (run level input (2 * i)) (run level input (2 * i + 1)) i
     (omega arith) (omega arith) left right)
 
--- a run, and behind it the rest of the input, which is no longer
+-- a run, and after it the rest of the input, which is no longer
 pub parent_node-rest : (level : ℕ) (mode : Mode) (input : List ℕ) (i : ℕ)
     → 1024 * 2 ^ level * (2 * i + 1) < length input
     → length input ≤ 1024 * 2 ^ level * (2 * i + 2)
@@ -99,7 +99,7 @@ subtree-append level mode input more i within =
     ∙ take-append-le n (drop (n * i) input) more (omega arith) in
     ap (λ bytes. chaining (top mode (2 ^ level * i) bytes)) same
 
--- the run behind a whole number of runs of its level
+-- the run after a whole number of runs of its level
 pub subtree-at : (level : ℕ) (mode : Mode) (input : List ℕ) (count : ℕ) → count % 2 ^ level ≡ 0
     → subtree mode level input (count / 2 ^ level)
     ≡ chaining (top mode count (take (1024 * 2 ^ level) (drop (1024 * count) input)))

@@ -49,7 +49,7 @@ EndsWithChunk-append mode count stack begun after before front held room after_i
       last = omega arith;
     }
 
--- bytes behind whole chunks: all chunks but the last are closed, and the last is begun
+-- bytes after whole chunks: all chunks but the last are closed, and the last is begun
 pub EndsWithChunk-begin : (mode : Mode) (start count : ℕ) (stack : List (List ℕ)) (after : Begun)
     → (before input rest : List ℕ)
     → length before ≡ 1024 * start → start ≤ count
@@ -139,7 +139,7 @@ IsAllClosed-push mode count next level stack after begun before bytes node value
       whole = omega (arith, input_len, len, before_len, next_is);
     }
 
--- bytes behind whole chunks, of which the last are one subtree: all chunks before that are closed
+-- bytes after whole chunks, of which the last are one subtree: all chunks before that are closed
 pub EndsWithWindow-begin : (mode : Mode) (start count level : ℕ) (stack : List (List ℕ)) (begun : Begun)
     → (before input rest : List ℕ) (node : Node)
     → length before ≡ 1024 * start → start ≤ count

@@ -4,10 +4,10 @@ use Rattle.std.specs.Borrow.{Bor}
 use Rattle.b3_core.specs.Output.{output_bytes}
 use Rattle.b3_core.specs.declared.nodes.Node.{Node}
 
--- the pieces, one behind the other
+-- the pieces, one after the other
 abbrev pub joined : List (Bor (List ℕ)) → List ℕ
 joined pieces = flat_map (λ piece. piece.now) pieces
 
--- the stream's bytes at these places, at each so many, one behind the other
+-- the stream's bytes at these places, at each so many, one after the other
 abbrev pub bytes_read : Node → List (ℕ × ℕ) → List ℕ
 bytes_read node reads = flat_map (λ read. output_bytes node read.0 read.1) reads

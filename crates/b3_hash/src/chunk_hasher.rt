@@ -122,7 +122,7 @@ impl ChunkHasher {
     }
 
     // Takes in bytes where no chunk is begun, and hands back the last window, where they end with one.
-    // Behind closed chunks there has to be a byte, since one of them would else be the last.
+    // After closed chunks there has to be a byte, since one of them would else be the last.
     pub(crate) fn append_chunks(&mut self, input: &[u8]) -> Option<Window>
         requires empty { begun_len self.old.begun ≡ 0 }
         requires fits { chunks_len self.old + length input.now < 2 ^ 64 }
@@ -177,7 +177,7 @@ impl ChunkHasher {
         self.closed.root(&self.mode, last)
     }
 
-    // The node of the root over the closed chunks and the chunks behind them, by the node of these: they
+    // The node of the root over the closed chunks and the chunks after them, by the node of these: they
     // are at most as many as some level has, and the closed ones a multiple of that level's.
     pub(crate) fn root_over(&self, last: Node) -> Node
         ensures { (level : ℕ) (before bytes : List ℕ) → level ≤ 54 → self.now.count % 2 ^ level ≡ 0

@@ -232,7 +232,7 @@ impl Hasher {
         }
     }
 
-    /// The output of the input so far and a last window behind it, by the window's node; the hasher stays
+    /// The output of the input so far and a last window after it, by the window's node; the hasher stays
     /// as it is. The window has at most as many chunks as some level, of which the input so far is a whole
     /// number of windows, and it has no bytes only where the input has none so far.
     pub fn finish_with(&self, last: Node) -> Xof

@@ -21,7 +21,7 @@ pub fn output_of_pieces(mode: Mode, pieces: &[&[u8]]) -> Xof
     hasher.finish()
 }
 
-/// Reads the output at a list of places, at each so many bytes, one behind the other into `out`: these
+/// Reads the output at a list of places, at each so many bytes, one after the other into `out`: these
 /// are the stream's bytes from that place, whatever was read before. No read passes place 2^64 - 1.
 pub fn read_places(output: &mut Xof, reads: &[(u64, usize)], out: &mut [u8])
     requires within { All (λ read. read.0 + read.1 < 2 ^ 64) reads.now }

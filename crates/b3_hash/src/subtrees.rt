@@ -121,10 +121,10 @@ impl Subtrees {
         (rest, level)
     }
 
-    // The root of the tree over the closed chunks and a last node, which is the top of all bytes behind
+    // The root of the tree over the closed chunks and a last node, which is the top of all bytes after
     // them. These are as many chunks as some level has, or fewer, and the closed chunks are a multiple of
     // that level's: so the last node is the right child of the subtree on the top of the stack. No bytes
-    // stand behind the closed chunks only where there are none.
+    // stand after the closed chunks only where there are none.
     pub(crate) fn root(&self, mode: &Mode, last: Node) -> Node
         ensures { (level : ℕ) (input : List ℕ) → level ≤ 54 → self.now.chunks % 2 ^ level ≡ 0
             → self.now.values.items ≡ stack_of 54 0 mode.now input self.now.chunks

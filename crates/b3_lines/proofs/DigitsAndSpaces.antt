@@ -1,4 +1,4 @@
--- The digits of a digest, and the spaces behind them.
+-- The digits of a digest, and the spaces after them.
 use Rattle.std.proofs.Common.{◌≡◌, ℕ, ◌≤◌, true, false, List, ◌++◌, length, take, drop, slice_index, Result, Ok, Err, refl, sym, ap, ◌∙◌, arith, append_assoc}
 use Rattle.std.specs.Prelude.{IsCharBoundary, IsOk, IsUtf8, bytes_eq}
 use Rattle.std.specs.List.{AllPass, list_all}
@@ -50,11 +50,11 @@ digest-from_digits s count each = decode_of-digits s (omega arith) (AllPass-list
 pub cut-digits : (digits name : List ℕ) → length digits ≡ 64 → take 64 (digits ++ spaces ++ name) ≡ digits
 cut-digits digits name count = rw append_assoc (take_at digits (spaces ++ name) 64 count)
 
--- what stands behind the digits
+-- what stands after the digits
 pub cut-rest : (digits name : List ℕ) → length digits ≡ 64 → drop 64 (digits ++ spaces ++ name) ≡ spaces ++ name
 cut-rest digits name count = rw append_assoc (drop_at digits (spaces ++ name) 64 count)
 
--- what stands behind the spaces
+-- what stands after the spaces
 pub cut-name : (digits name : List ℕ) → length digits ≡ 64 → drop 66 (digits ++ spaces ++ name) ≡ name
 cut-name digits name count =
     let further = drop-drop 2 64 (digits ++ spaces ++ name) in

@@ -58,7 +58,7 @@ escaped-skip (b ∷ s) (suc k) within none =
     escaped-plain b s (Nowhere-head is_escaped b s k none)
     ∙ ap (λ t. b ∷ t) (escaped-skip s k (omega arith) (Nowhere-tail is_escaped b s k none))
 
--- a front with nothing to escape, and the byte behind it
+-- a front with nothing to escape, and the byte after it
 pub escaped-first : (s : List ℕ) (k : ℕ) → k < length s → Nowhere (Passes is_escaped s) 0 k
     → escaped s ≡ take k s ++ (escape (slice_index s k) ++ escaped (drop (k + 1) s))
 escaped-first s k within none =
@@ -66,7 +66,7 @@ escaped-first s k within none =
     ∙ ap (λ t. take k s ++ escaped t) (drop_more s k 0 within)
     ∙ ap (λ t. take k s ++ t) (escaped-cons (slice_index s k) (drop (k + 1) s))
 
--- one turn of a loop that writes the front and the escape behind it
+-- one turn of a loop that writes the front and the escape after it
 pub escaped-step : (line line₁ line₂ s after whole : List ℕ) (k : ℕ) → line ++ escaped s ≡ whole
     → line₁ ≡ line ++ take k s → line₂ ≡ line₁ ++ escape (slice_index s k) → after ≡ drop (k + 1) s
     → k < length s → Nowhere (Passes is_escaped s) 0 k → line₂ ++ escaped after ≡ whole
@@ -85,7 +85,7 @@ escaped-none s none =
 
 -- ---- taken back
 
--- a byte but `\` changes nothing behind it
+-- a byte but `\` changes nothing after it
 pub has_bad_escape-itself : (b : ℕ) (s : List ℕ) → b ≢ 92 → has_bad_escape (b ∷ s) ≡ has_bad_escape s
 unfolding has_bad_escape
 has_bad_escape-itself b [] other = ne_eqb b 92 other
@@ -97,7 +97,7 @@ unfolding unescaped
 unescaped-itself b [] other = refl
 unescaped-itself b (c ∷ s) other = cond-false (b == 92) _ _ (ne_eqb b 92 other)
 
--- a `\` and the byte behind it
+-- a `\` and the byte after it
 pub has_bad_escape-backslash : (c : ℕ) (s : List ℕ)
     → has_bad_escape (92 ∷ c ∷ s) ≡ (not (ends_escape c) || has_bad_escape s)
 unfolding has_bad_escape
@@ -145,7 +145,7 @@ unescaped-skip (b ∷ s) (suc k) within none =
     unescaped-itself b s (not_backslash b (Nowhere-head (is_byte 92) b s k none))
     ∙ ap (λ t. b ∷ t) (unescaped-skip s k (omega arith) (Nowhere-tail (is_byte 92) b s k none))
 
--- what stands from a `\` on, with a byte behind it
+-- what stands from a `\` on, with a byte after it
 backslash_at : (s : List ℕ) (k : ℕ) → k + 1 < length s → slice_index s k ≡ 92
     → drop k s ≡ 92 ∷ slice_index s (k + 1) ∷ drop (k + 2) s
 backslash_at s k within is =
@@ -154,7 +154,7 @@ backslash_at s k within is =
     drop_more s k 0 (omega arith) ∙ ap (λ b. b ∷ drop (k + 1) s) is ∙ ap (λ t. 92 ∷ t) next
     ∙ ap (λ n. 92 ∷ slice_index s (k + 1) ∷ drop n s) sum
 
--- a front without `\`, and a `\` with a byte behind it
+-- a front without `\`, and a `\` with a byte after it
 pub has_bad_escape-first : (s : List ℕ) (k : ℕ) → k + 1 < length s → slice_index s k ≡ 92
     → Nowhere (Passes (is_byte 92) s) 0 k
     → has_bad_escape s ≡ (not (ends_escape (slice_index s (k + 1))) || has_bad_escape (drop (k + 2) s))
@@ -220,7 +220,7 @@ counts-step s after k rest within is none ends =
       omega (arith, left),
     )
 
--- a `\` in a text with no bad escape has one of three bytes behind it
+-- a `\` in a text with no bad escape has one of three bytes after it
 pub lawful-first : (s : List ℕ) (k : ℕ) → k < length s → slice_index s k ≡ 92 → Nowhere (Passes (is_byte 92) s) 0 k
     → has_bad_escape s ≡ false
     → (k + 1 < length s) × (ends_escape (slice_index s (k + 1)) ≡ true) × (has_bad_escape (drop (k + 2) s) ≡ false)
@@ -240,7 +240,7 @@ escape_meaning-ascii c =
     cond_both (c == 110) 10 (if c == 114 then 13 else 92) (λ x. x < 128) (λ _. omega arith)
     (λ _. cond_both (c == 114) 13 92 (λ x. x < 128) (λ _. omega arith) (λ _. omega arith))
 
--- and so is what may stand behind a `\`
+-- and so is what may stand after a `\`
 pub ends_escape-ascii : (c : ℕ) → ends_escape c ≡ true → c < 128
 ends_escape-ascii c ends =
     elim (or_cases (c == 92 || c == 110) (c == 114) ends) [
@@ -252,7 +252,7 @@ ends_escape-ascii c ends =
       | inr is ↦ omega (arith, eqb-true c 114 is)
     ]
 
--- one turn of a loop that takes a front and the escape behind it back
+-- one turn of a loop that takes a front and the escape after it back
 pub unescaped-step : (name name₁ name₂ s after whole : List ℕ) (k : ℕ) → name ++ unescaped s ≡ whole
     → name₁ ≡ name ++ take k s → name₂ ≡ name₁ ++ escape_meaning (slice_index s (k + 1)) ∷ [] → after ≡ drop (k + 2) s
     → k + 1 < length s → slice_index s k ≡ 92 → Nowhere (Passes (is_byte 92) s) 0 k → name₂ ++ unescaped after ≡ whole

@@ -182,7 +182,7 @@ joined-tagged rest tagged long parted =
 
 -- ---- where a text may be cut
 
--- a text may be cut behind `BLAKE3 (`
+-- a text may be cut after `BLAKE3 (`
 pub IsCharBoundary-tag : (rest : List ℕ) → IsUtf8 rest → 76 ≤ length rest → is_tagged rest ≡ true
     → IsCharBoundary rest 8
 IsCharBoundary-tag rest utf8 long tagged =

@@ -24,7 +24,7 @@ lines_of-cons b text other = cond-false (b == 10) _ _ other
 
 -- ---- by the first line
 
--- no byte of the first line is a line feed, and one stands behind it where it is not the whole text
+-- no byte of the first line is a line feed, and one stands after it where it is not the whole text
 lines_of-first_suc : (text : List ℕ) (n : ℕ) → 0 < length text → n ≤ length text
     → Nowhere (Passes (is_byte 10) text) 0 n → (n < length text → slice_index text n ≡ 10)
     → lines_of text ≡ take n text ∷ lines_of (drop (suc n) text)

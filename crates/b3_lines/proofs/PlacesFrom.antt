@@ -25,7 +25,7 @@ places_from-at_end text start past =
     ap (λ t. places_from start (lines_of t)) (drop_all start text past)
     ∙ ap (places_from start) lines_of-nil ∙ places_from-nil start
 
--- the place of the first line, and those of the lines behind it
+-- the place of the first line, and those of the lines after it
 pub places_from-first : (text : List ℕ) (start n end next : ℕ) → end ≡ start + n → next ≡ end + 1
     → n ≤ length (drop start text)
     → lines_of (drop start text) ≡ take n (drop start text) ∷ lines_of (drop (n + 1) (drop start text))
@@ -65,7 +65,7 @@ Stand-cons text start line lines within here behind =
       All-cons (IsWithin text) place (places_from (start + length line + 1) lines) (omega arith, within) behind.1,
     )
 
--- the first line and those behind it
+-- the first line and those after it
 record HasFirst (text : List ℕ) (start : ℕ) (line : List ℕ) (lines : List (List ℕ)) : Type 0 where
   within : start + length line ≤ length text
   here : take (length line) (drop start text) ≡ line

@@ -3,7 +3,7 @@ use Rattle.std.proofs.Common.{◌≡◌, ℕ, suc, Bool, false, List, ◌∷◌,
 use Rattle.std.proofs.lemmas.Bool.{false_from_ne_true}
 use Rattle.memchr.specs.Find.{Nowhere, Passes}
 
--- the front behind the first byte
+-- the front after the first byte
 pub Nowhere-tail : (p : ℕ → Bool) (b : ℕ) (s : List ℕ) (k : ℕ) → Nowhere (Passes p (b ∷ s)) 0 (suc k)
     → Nowhere (Passes p s) 0 k
 Nowhere-tail p b s k none j low high passes = none (suc j) (omega arith) (omega arith) passes

@@ -24,7 +24,7 @@ pub record AreLines (text : List ℕ) (pieces : List (List ℕ)) : Type 0 where
   pub without_feed : All HasNoFeed pieces
   pub give : (text ≡ ended pieces) ⊎ EndsOpen text pieces
 
--- a byte but a line feed in front of the lines behind it
+-- a byte but a line feed in front of the lines after it
 abbrev pub prepended : ℕ → List (List ℕ) → List (List ℕ)
 prepended b [] = (b ∷ []) ∷ []
 prepended b (line ∷ lines) = (b ∷ line) ∷ lines

@@ -99,7 +99,7 @@ plain_layout rest = record {
   spelled = drop 66 rest;
 }
 
--- the last 64 bytes, `) = ` in front of them, and what is left behind the first eight
+-- the last 64 bytes, `) = ` in front of them, and what is left after the first eight
 abbrev pub tagged_layout : List ℕ → Layout
 tagged_layout rest =
     let start = length rest - 64 in

@@ -28,7 +28,7 @@ plain_text digest name = mark name ++ encode_lower digest ++ spaces ++ escaped n
 abbrev pub plain : List ℕ → List ℕ → List ℕ
 plain digest name = plain_text digest name ++ 10 ∷ []
 
--- what a tagged line begins with, behind its mark
+-- what a tagged line begins with, after its mark
 abbrev pub tag : List ℕ
 tag = codes "BLAKE3 ("
 

@@ -52,7 +52,7 @@ impl Parts<'_> {
         }
     }
 
-    /// The name as it stands in the line, behind the mark of a marked one.
+    /// The name as it stands in the line, after the mark of a marked one.
     fn shown(&self, alloc: Global) -> Result<String, AllocError>
         ensures { IfOk result (λ shown.
             string_bytes shown ≡ shown_of self.now.marked self.now.spelled.now) }
@@ -68,7 +68,7 @@ impl Parts<'_> {
 }
 
 /// The places of the lines of a text, in order: the pieces between line feeds, without a piece
-/// behind a line feed that ends the text. It takes no memory.
+/// after a line feed that ends the text. It takes no memory.
 pub fn lines(text: &[u8]) -> Lines<'_>
     ensures places { result ≡ line_places text.now }
     // At each place stands its line.

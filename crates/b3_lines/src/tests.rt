@@ -42,7 +42,7 @@ fn assert_next(rt: &impl Abort, left: &mut Lines<'_>, place: Option<(usize, usiz
     assert_eq!(rt; left.next(), place, "in {text:?}");
 }
 
-/// Asserts that the lines of a text are at these places, and that there is none behind them, also when asked again.
+/// Asserts that the lines of a text are at these places, and that there is none after them, also when asked again.
 fn assert_places(rt: &impl Abort, text: &[u8], places: &[(usize, usize)]) {
     let mut left = lines(text);
     for place in places {

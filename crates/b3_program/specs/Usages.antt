@@ -78,7 +78,7 @@ abbrev pub hashes_input : Words → Bool
 hashes_input words =
     vec_len words.files == 0 || list_any is_input words.files.items
 
--- whether bytes are asked for that lie behind the end of the output, of 2^64 - 1 bytes
+-- whether bytes are asked for that lie past the end of the output, of 2^64 - 1 bytes
 abbrev pub seeks_past_end : Words → Bool
 seeks_past_end words = nat_lt (2 ^ 64 - 1) (unwrap_or words.seek 0 + unwrap_or words.length 32)
 

@@ -175,7 +175,7 @@ where
         let Ok(file) = File::open(self.files, name) else {
             return Err(0);
         };
-        // Where the room is full, the file may go on behind it.
+        // Where the room is full, the file may go on after it.
         match fill_at(&file, 0, room) {
             Some(len) if len < room.len() => Ok(len),
             _ => Err(0),

@@ -144,7 +144,7 @@ fn excluded_by_tag(words: &Words) -> Option<&'static str>
     }
 }
 
-// Whether bytes are asked for that lie behind the end of the output.
+// Whether bytes are asked for that lie past the end of the output.
 fn seeks_past_end(words: &Words) -> bool
     ensures { result ≡ seeks_past_end words.now }
 {

@@ -15,7 +15,7 @@ pub enum Usage {
     KeyNeedsFiles,
     /// An option that goes with no tagged lines.
     TagExcludes(&'static str),
-    /// Bytes behind the end of the output.
+    /// Bytes past the end of the output.
     SeekPastEnd,
     /// `--ignore-missing` where nothing is checked.
     IgnoreMissingAlone,

@@ -14,7 +14,7 @@ Examples:
   b3sum --ignore-missing --check SUMS
                               check those of them that are there
   b3sum --keyed FILE < KEY    write a digest keyed by the 32 bytes of KEY
-  b3sum --seek 32 FILE        write the 32 bytes of output behind the digest
+  b3sum --seek 32 FILE        write the 32 bytes of output after the digest
 
 The status is 0, or 1 where a file cannot be read, a digest differs, a line is
 malformed, a list fails as a whole or the run is cut short, or 2 where the words

@@ -118,7 +118,7 @@ fn a_refused_growth_makes_no_claims(rt: HostRuntime) {
     }
     assert!(&rt;
         last_growth(rt.alloc()).is_ok(),
-        "refused behind the last call"
+        "refused after the last call"
     );
 }
 

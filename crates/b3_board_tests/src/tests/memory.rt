@@ -91,7 +91,7 @@ fn refused_memory_is_answered(rt: HostRuntime) -> Result<(), Fail> {
         by_grain(alloc, &input, 3).err(),
         Some(BoardFault::BadGrain)
     );
-    assert!(&rt; last_growth(alloc).is_ok(), "refused behind the last call");
+    assert!(&rt; last_growth(alloc).is_ok(), "refused after the last call");
     Ok(())
 }
 

@@ -190,7 +190,7 @@ fn each_length_around_spans(rt: HostRuntime) -> Result<(), Fail> {
     Ok(())
 }
 
-// The second of two regions: its chunks are numbered from its own first, and what stands behind it is not read.
+// The second of two regions: its chunks are numbered from its own first, and what stands after it is not read.
 #[test]
 fn each_length_of_a_region_behind_another(rt: HostRuntime) -> Result<(), Fail> {
     let input = pattern(rt.alloc(), 14 * 1024)?;
@@ -433,7 +433,7 @@ fn refused_memory_of_a_source(rt: HostRuntime) -> Result<(), Fail> {
     assert!(&rt; answers_of_two(&rt, rt.alloc()) > 0);
     assert!(&rt;
         last_growth(rt.alloc()).is_ok(),
-        "refused behind the last call"
+        "refused after the last call"
     );
     Ok(())
 }

@@ -211,7 +211,7 @@ fn answers_of_two<R: Threads + Wait + Abort + Sync, G: Gate + Sync>(
 fn refused_memory_of_a_run(rt: HostRuntime) -> Result<(), Fail> {
     let alloc = rt.alloc();
     assert!(&rt; answers_of_two(&rt, alloc, &OpenGate) > 0);
-    assert!(&rt; last_growth(alloc).is_ok(), "refused behind the last call");
+    assert!(&rt; last_growth(alloc).is_ok(), "refused after the last call");
     Ok(())
 }
 
@@ -219,7 +219,7 @@ fn refused_memory_of_a_run(rt: HostRuntime) -> Result<(), Fail> {
 fn refused_memory_of_a_run_in_four_threads(rt: HostRuntime) -> Result<(), Fail> {
     let alloc = rt.alloc();
     assert!(&rt; answers_of_two(&rt, alloc, &Yielding) > 0);
-    assert!(&rt; last_growth(alloc).is_ok(), "refused behind the last call");
+    assert!(&rt; last_growth(alloc).is_ok(), "refused after the last call");
     Ok(())
 }
 

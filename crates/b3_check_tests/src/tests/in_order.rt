@@ -168,7 +168,7 @@ fn a_name_asked_twice_in_a_row_is_begun_twice(rt: HostRuntime) -> Result<(), Fai
     Ok(())
 }
 
-// The write of the first line fails: no name behind it is begun.
+// The write of the first line fails: no name after it is begun.
 #[test]
 fn a_write_that_fails_ends_the_run(rt: HostRuntime) -> Result<(), Fail> {
     let line = line_of(rt.alloc(), "g7")?;
@@ -198,7 +198,7 @@ fn a_write_that_fails_behind_an_open_gate(rt: HostRuntime) -> Result<(), Fail> {
     Ok(())
 }
 
-// Four reads, of which the last one finds the end, are too few for the second file. Its fault comes behind
+// Four reads, of which the last one finds the end, are too few for the second file. Its fault comes after
 // the first line.
 #[test]
 fn a_fault_comes_behind_the_line(rt: HostRuntime) -> Result<(), Fail> {

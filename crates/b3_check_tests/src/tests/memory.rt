@@ -79,7 +79,7 @@ fn a_refused_put_leaves_the_map_as_it_was(rt: HostRuntime) {
         assert_eq!(rt; shelf.read(&mut room), Ok(3));
         assert_eq!(rt; room[..3], content[..]);
     }
-    assert!(rt; is_granted(rt.alloc()), "refused behind the last call");
+    assert!(rt; is_granted(rt.alloc()), "refused after the last call");
 }
 
 // A text, for which memory is asked again where it was refused.
@@ -101,7 +101,7 @@ fn put(shelf: &mut MemoryShelf, name: &str, content: &[u8]) -> Result<(), AllocE
 }
 
 // Compares a run that may have been refused memory with one that was not: it came to the same end, or to a fault
-// behind beginnings of the same texts.
+// after beginnings of the same texts.
 fn compare_refused(
     rt: &impl Abort,
     answer: Result<Tally, RunFault>,
@@ -143,7 +143,7 @@ fn refused_memory_of_a_sum_of_two_files(rt: HostRuntime) -> Result<(), Fail> {
         (out.bytes(), TWO_LINES),
         (err.bytes(), b""),
     );
-    assert!(&rt; is_granted(alloc), "refused behind the last call");
+    assert!(&rt; is_granted(alloc), "refused after the last call");
     Ok(())
 }
 
@@ -168,7 +168,7 @@ fn refused_memory_of_a_check_of_three_lines(rt: HostRuntime) -> Result<(), Fail>
         (out.bytes(), b"x: OK\ny: FAILED\n"),
         (err.bytes(), THREE_COMPLAINTS),
     );
-    assert!(&rt; is_granted(alloc), "refused behind the last call");
+    assert!(&rt; is_granted(alloc), "refused after the last call");
     Ok(())
 }
 

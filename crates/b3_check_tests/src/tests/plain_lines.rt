@@ -143,7 +143,7 @@ pub fn read(alloc: Global, line: &[u8]) -> Result<Outcome, AllocError> {
     }
 }
 
-// Reads what stands behind the mark, if there is one.
+// Reads what stands after the mark, if there is one.
 fn read_rest(alloc: Global, rest: &[u8], is_marked: bool) -> Result<Outcome, AllocError> {
     let parts = match rest.strip_prefix(b"BLAKE3 (") {
         Some(tagged) => tagged_parts(tagged),
@@ -195,7 +195,7 @@ fn plain_parts(rest: &[u8]) -> Option<Parts<'_>> {
     })
 }
 
-// The parts of a tagged line behind its tag: the name, `) = ` and 64 digits.
+// The parts of a tagged line after its tag: the name, `) = ` and 64 digits.
 fn tagged_parts(rest: &[u8]) -> Option<Parts<'_>> {
     let (rest, digits) = rest.split_last_chunk::<64>()?;
     let (name, between) = rest.split_last_chunk::<4>()?;

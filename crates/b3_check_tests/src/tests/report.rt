@@ -62,7 +62,7 @@ impl<'a> Report<'a> {
         Some(answer)
     }
 
-    // The next answer, where it is whole. A name that may have so many bytes may be left unread behind these, or after
+    // The next answer, where it is whole. A name that may have so many bytes may be left unread after these, or after
     // as many reads as a name may take.
     fn next_whole(&mut self, rt: &impl Abort, name: &[u8], largest: u64) -> Option<&'a Answer<'a>> {
         self.fault = Some(RunFault::WriteFault);

@@ -14,7 +14,7 @@ use std::test::Fail;
 use std::thread::Threads;
 
 // The bytes 0 to 250, over and over, in lengths around one window, and in those that end around the
-// last read behind it.
+// last read after it.
 const ONE: [(u64, &str); 6] = [
     (
         2_097_151,

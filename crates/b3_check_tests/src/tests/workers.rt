@@ -269,7 +269,7 @@ fn two_at_once(rt: HostRuntime) -> Result<(), Fail> {
     Ok(())
 }
 
-// A window has 128 spans, and the byte behind the third window is one more.
+// A window has 128 spans, and the byte after the third window is one more.
 #[test]
 fn each_span_of_three_windows_is_hashed_once(rt: HostRuntime) -> Result<(), Fail> {
     let alloc = rt.alloc();

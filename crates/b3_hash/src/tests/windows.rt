@@ -43,7 +43,7 @@ fn a_window_of_one_chunk_stays_open(rt: HostRuntime) -> Result<(), Fail> {
     Ok(())
 }
 
-// The node of the window is the root; behind a byte more, the root is a parent over it and a chunk.
+// The node of the window is the root; after a byte more, the root is a parent over it and a chunk.
 #[test]
 fn a_window_of_16_mebibytes(rt: HostRuntime) -> Result<(), Fail> {
     let all = pattern(rt.alloc(), 16_777_217)?;

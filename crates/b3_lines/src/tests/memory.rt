@@ -29,7 +29,7 @@ macro_rules! answered {
 fn assert_over(rt: &impl Abort, alloc: Global) {
     assert!(rt;
         String::from_str(alloc, "x").is_ok(),
-        "refused behind the last call"
+        "refused after the last call"
     );
 }
 
@@ -83,7 +83,7 @@ fn refused_memory_for_a_name_that_is_shown(rt: HostRuntime) -> Result<(), Fail> 
     Ok(())
 }
 
-/// The lines of a text and all refusals take none: the first growth is the one behind them.
+/// The lines of a text and all refusals take none: the first growth is the one after them.
 #[test]
 fn lines_and_refusals_take_no_memory(rt: HostRuntime) {
     let alloc = rt.alloc();

@@ -206,7 +206,7 @@ fn settling_words_takes_no_memory(rt: HostRuntime) {
     assert!(rt; matches!(task, Err(Usage::TagExcludes("--no-names"))));
     assert!(rt;
         String::from_str(rt.alloc(), "x").is_ok(),
-        "refused behind the last call"
+        "refused after the last call"
     );
 }
 

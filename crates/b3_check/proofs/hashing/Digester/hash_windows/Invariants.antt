@@ -5,7 +5,7 @@ use Rattle.b3_check.specs.declared.room.TheConstants.{READ_LEN}
 use Rattle.b3_check.specs.declared.window.Found.TheVariants.{Failed, Full, Last}
 use Rattle.b3_check.proofs.hashing.Digester.hash_windows.Given as goal
 
--- the hasher stands for the windows before; behind them come the bytes that are filled and those that are left
+-- the hasher stands for the windows before; after them come the bytes that are filled and those that are left
 abbrev pub invariant-windows : goal.invariant-windows
 invariant-windows g l =
     let shelf = g.S.Shelf in
