@@ -78,7 +78,7 @@ fn the_input_is_begun_once_and_gives_its_bytes(rt: HostRuntime) {
     assert_eq!(rt; shelf.read(&mut room), Ok(0));
 }
 
-// A file without bytes.
+// A file without bytes, whose bytes were taken away since its length was told.
 #[derive(Drop)]
 struct EmptyFile;
 
@@ -159,8 +159,12 @@ impl Files for OnePath<'_> {
         unsupported()
     }
 
-    fn metadata(&self, _path: &str) -> io::Result<Metadata> {
-        unsupported()
+    fn metadata(&self, path: &str) -> io::Result<Metadata> {
+        if path == self.path {
+            Ok(Metadata::of_file(4))
+        } else {
+            Err(io::Error::from(ErrorKind::NotFound))
+        }
     }
 
     fn symlink_metadata(&self, _path: &str) -> io::Result<Metadata> {
@@ -192,7 +196,7 @@ impl Files for OnePath<'_> {
     }
 }
 
-// The file that is opened is the one that is named, to the character.
+// The file that is opened, or looked at, is the one that is named, to the character.
 #[test]
 fn the_named_file_is_opened(rt: HostRuntime) -> Result<(), AllocError> {
     let mut long = String::new(rt.alloc());
@@ -223,6 +227,8 @@ fn the_named_file_is_opened(rt: HostRuntime) -> Result<(), AllocError> {
         let mut shelf = FileShelf::new(&files, b"".as_slice());
         assert_eq!(&rt; shelf.begin(path), Ok(()), "{path}");
         assert_eq!(&rt; shelf.begin("another"), Err(NoContent::Missing), "{path}");
+        assert_eq!(&rt; shelf.peek(path, &mut [0; 8]), Ok(0), "{path}");
+        assert_eq!(&rt; shelf.peek("another", &mut [0; 8]), Err(0), "{path}");
     }
     Ok(())
 }
