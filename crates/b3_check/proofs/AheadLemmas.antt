@@ -6,12 +6,12 @@ use Rattle.std.proofs.lemmas.List.{get_or-set_same, get_or-set_other, get_or_def
 use Rattle.std.proofs.lemmas.List.Elements.{All-append}
 use Rattle.std.proofs.lemmas.Bool.Decides.{eqb_tells}
 use Rattle.b3_core.specs.declared.modes.Mode.{Mode}
-use Rattle.b3_core.specs.declared.nodes.Node.{Node}
+use Rattle.b3_hash.specs.Readers.{Reader}
 use Rattle.b3_check.specs.declared.ahead.Found.{Found}
 use Rattle.b3_check.specs.declared.items.Item.{Item}
 use Rattle.b3_check.specs.declared.items.Item.TheVariants.{Ask as AskItem}
 use Rattle.b3_check.specs.declared.items.Subject.{Subject}
-use Rattle.b3_check.specs.Ahead.{AreKnown, IsFound, IsNodeOf, tasks_then}
+use Rattle.b3_check.specs.Ahead.{AreKnown, IsFound, HasOutput, tasks_then}
 use Rattle.b3_check.specs.declared.hashing.Output.{Output}
 use Rattle.b3_check.specs.Contents.{Contents, HasContent}
 use Rattle.b3_check.specs.Reading.{Digested}
@@ -28,18 +28,20 @@ are_known_none told mode items = record { few = omega arith; each = λ i d lt. a
 pub all_none : {X : Type 0} (P : X → Type 0) → All P []
 all_none P k d lt = absurd (omega (arith, lt))
 
--- a node was found for one of them
-pub known_set : {told : Option Contents} {mode : Mode} {items : List Item} {nodes : List (Option Node)} (found : Found)
-    → IsFound told mode items found → found.place < length nodes → AreKnown told mode items nodes
-    → AreKnown told mode items (set nodes found.place (Some found.node))
-known_set {told} {mode} {items} {nodes} found is lt are = record {
-  few = subst (λ n. n ≤ length items) (sym (length-set nodes found.place (Some found.node))) are.few;
+-- an output was found for one of them
+pub known_set : {told : Option Contents} {mode : Mode} {items : List Item} {outputs : List (Option Reader)}
+    (found : Found)
+    → IsFound told mode items found → found.place < length outputs → AreKnown told mode items outputs
+    → AreKnown told mode items (set outputs found.place (Some found.output))
+known_set {told} {mode} {items} {outputs} found is lt are = record {
+  few = subst (λ n. n ≤ length items) (sym (length-set outputs found.place (Some found.output))) are.few;
   each = λ i d within.
-      let inside : i < length nodes = subst (λ n. i < n) (length-set nodes found.place (Some found.node)) within in
+      let inside : i < length outputs =
+      subst (λ n. i < n) (length-set outputs found.place (Some found.output)) within in
       elim (eqb_tells i found.place) [
-        | inl same ↦ rw same.1 (rw (get_or-set_same nodes found.place (Some found.node) None lt)
+        | inl same ↦ rw same.1 (rw (get_or-set_same outputs found.place (Some found.output) None lt)
             (is d (omega (arith, lt, are.few))))
-        | inr other ↦ rw (get_or-set_other nodes found.place i (Some found.node) None other.1) (are.each i d inside)
+        | inr other ↦ rw (get_or-set_other outputs found.place i (Some found.output) None other.1) (are.each i d inside)
       ];
 }
 
@@ -59,12 +61,12 @@ taken_more {rest} {left} item items is =
     ∙ append_assoc (map task_of items) (task_of item ∷ []) rest
     ∙ ap (λ (ts : List Task). map task_of items ++ ts) (sym is)
 
--- a node was found for the item at a place
-pub found_for : {told : Option Contents} {mode : Mode} {item : Item} {node : Node} (items : List Item) (place : ℕ)
+-- an output was found for the item at a place
+pub found_for : {told : Option Contents} {mode : Mode} {item : Item} {output : Reader} (items : List Item) (place : ℕ)
     (subject : Subject) → item ≡ slice_index_or items place item → item ≡ AskItem subject
-    → IsNodeOf told mode (name_asked subject) node
-    → IsFound told mode items (record { place = place; node = node })
-found_for {told} {mode} {item} {node} items place subject at asks is = λ d lt.
+    → HasOutput told mode (name_asked subject) output
+    → IsFound told mode items (record { place = place; output = output })
+found_for {told} {mode} {item} {output} items place subject at asks is = λ d lt.
     let same : slice_index_or items place d ≡ AskItem subject =
     get_or_default items place d item lt ∙ sym at ∙ asks in
     rw same is
@@ -73,17 +75,17 @@ pub if_some_weaker : {T : Type 0} {P Q : T → Type 0} (it : Option T) → ((x :
 if_some_weaker {T} {P} {Q} None weaker p = tt
 if_some_weaker {T} {P} {Q} (Some x) weaker p = weaker x p
 
--- ---- a name of which the node is known is answered
+-- ---- a name of which the output is known is answered
 
 agrees_known : (told : Option Contents) (sure : Bool) (name content : List ℕ) → HasContent told name content
     → AgreesWith told sure Hashed name (Ok content)
 agrees_known None sure name content has = tt
 agrees_known (Some contents) sure name content has = inl (sym (ap (answer_of Hashed) has))
 
-pub digested_known : {name : List ℕ} {node : Node} {digest : List ℕ} (output : Output) (a : Scene)
-    → IsNodeOf a.told output.mode name node → digest ≡ output_bytes node output.seek output.length
+pub digested_known : {name : List ℕ} {given : Reader} {digest : List ℕ} (output : Output) (a : Scene)
+    → HasOutput a.told output.mode name given → digest ≡ output_bytes given.node output.seek output.length
     → Digested output name (Ok digest) a a
-digested_known {name} {node} {digest} output a known is = record {
+digested_known {name} {given} {digest} output a known is = record {
   answer = Ok known.content;
   answered = record {
     agrees = agrees_known a.told a.sure name known.content known.has;
@@ -93,5 +95,5 @@ digested_known {name} {node} {digest} output a known is = record {
       err = (went_nowhere a).err;
     };
   };
-  is = ap Ok (is ∙ ap (λ (n : Node). output_bytes n output.seek output.length) known.is);
+  is = ap Ok (is ∙ ap (λ (reader : Reader). output_bytes reader.node output.seek output.length) known.is);
 }

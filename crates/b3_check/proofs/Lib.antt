@@ -6,6 +6,8 @@ pub mod Stored
 pub mod ScriptLemmas
 -- Runs: of parts of a script, one after the other, and runs that stop.
 pub mod RunLemmas
+-- Runs of which lines are still to be written.
+pub mod OwingLemmas
 -- Tasks: their scripts, runs of the tasks so far, and those of one.
 pub mod TaskLemmas
 -- What is read of a file: so far, to its end, and of a name.

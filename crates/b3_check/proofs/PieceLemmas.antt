@@ -1,82 +1,92 @@
--- Pieces of a content: what the next piece adds to those before it.
-use Rattle.std.proofs.Common.{◌≡◌, ℕ, ◌+◌, ◌*◌, ◌/◌, ◌%◌, ◌^◌, ◌<◌, ◌≤◌, ◌++◌, IsTrue, IsSome, List, length, take, drop, Option, Result, Ok, Err, sym, ap, ◌∙◌, length-append, arith}
-use Rattle.std.specs.Prelude.{OnOk, is_ok}
+-- Pieces of a content: what a shelf's rest is as a source, and what the next region adds to those before it.
+use Rattle.std.proofs.Common.{◌≡◌, ℕ, ◌+◌, ◌-◌, ◌/◌, ◌%◌, ◌^◌, ◌*◌, ◌<◌, ◌++◌, IsSome, List, length, take, drop, Option, None, Some, refl, sym, ap, ◌∙◌, length-append, arith}
+use Rattle.std.specs.Option.{option_map}
 use Rattle.std.proofs.Math.Nat.{add-mod_right}
 use Rattle.std.proofs.Math.Seq.{take-append-add}
-use Rattle.std.proofs.lemmas.List.{length-take, take-append-drop, take_all}
+use Rattle.std.proofs.lemmas.List.{length-drop, length-take, take-append-drop, take_all}
+use Rattle.b3_board.specs.Regions.{region}
+use Rattle.b3_board.specs.Spans.{IsRootOf}
 use Rattle.b3_core.specs.Tree.{top}
 use Rattle.b3_core.specs.declared.modes.Mode.{Mode}
+use Rattle.b3_core.specs.declared.nodes.Node.{Node}
 use Rattle.b3_hash.specs.Hashers.{StandsFor, State, length_of, mode_of}
 use Rattle.b3_hash.proofs.Standing.{length-StandsFor}
 use Rattle.b3_check.specs.Contents.{Contents}
-use Rattle.b3_check.specs.Pieces.{HasHashed, IsPieceOf}
-use Rattle.b3_check.specs.declared.pieces.Piece.{Piece}
-use Rattle.b3_check.specs.declared.pieces.TheConstants.{PIECE_LEN, PIECE_LEVEL}
+use Rattle.b3_check.specs.Pieces.{HasHashed, IsPartOf}
+use Rattle.b3_check.specs.declared.pieces.TheConstants.{REGION_LEN, REGION_LEVEL}
 
--- what a call gives where it succeeds, once it does
-pub on_ok : {T E : Type 0} (r : Result T E) {P : Type 0} → IsTrue (is_ok r) → OnOk r P → P
-on_ok (Ok x) is held = held
-on_ok (Err e) is held = absurd (cc is)
+-- what is told of a part of a shelf's rest
+part_told : (told : Option Contents) (left : List ℕ) (place len : ℕ) → IsSome told
+    → (region (option_map (λ _. left) told) place len).told ≡ Some (take len (drop place left))
+part_told None left place len is_told = absurd (cc is_told)
+part_told (Some contents) left place len is_told = refl
 
--- where there are fewer bytes than were asked for, they are all
-pub take_few : (n : ℕ) (xs : List ℕ) → length (take n xs) < n → take n xs ≡ xs
-take_few n xs few = take_all n xs (omega (arith, few, length-take n xs))
+-- a part of a shelf's rest, by the root of a board over it
+pub part_of : {told : Option Contents} {left : List ℕ} {mode : Mode} {place len : ℕ} {node : Node}
+    → IsRootOf (region (option_map (λ _. left) told) place len) mode (place / 1024) node
+    → IsPartOf told left mode place len node
+part_of {told} {left} {mode} {place} {len} {node} root = record {
+  bytes = root.bytes;
+  len_is = root.may_be.len_is;
+  node_is = root.is_top;
+  is = λ is_told. root.may_be.told_is (take len (drop place left)) (part_told told left place len is_told);
+}
+
+-- of two bytes from the last one on there is one
+pub one_of_two : (len : ℕ) (left given : List ℕ) → 0 < len → length given ≡ 1 → given ≡ take 2 (drop (len - 1) left)
+    → length left ≡ len
+one_of_two len left given some one is =
+    omega (
+      arith,
+      some,
+      one,
+      ap (λ (xs : List ℕ). length xs) is,
+      length-take 2 (drop (len - 1) left),
+      length-drop (len - 1) left,
+    )
 
 -- the bytes of two places in a row
-pub take_two : (n m : ℕ) (xs : List ℕ) → length (take n xs) ≡ n
+take_two : (n m : ℕ) (xs : List ℕ) → length (take n xs) ≡ n
     → take (n + m) xs ≡ take n xs ++ take m (drop n xs)
 take_two n m xs len =
     ap (take (n + m)) (sym (take-append-drop n xs))
     ∙ ap (λ k. take (k + m) (take n xs ++ drop n xs)) (sym len)
     ∙ take-append-add (take n xs) (drop n xs) m
 
--- the number of the next piece's first chunk, and of its first byte
-pub at_length : {told : Option Contents} {left : List ℕ} {mode : Mode} {hasher : State}
-    (held : HasHashed told left mode hasher) (index : ℕ) → index * PIECE_LEN ≡ length_of hasher
-    → index * PIECE_LEN ≡ length held.before
-at_length {told} {left} {mode} {hasher} held index next =
-    next ∙ sym (length-StandsFor hasher held.before held.stands)
+-- what the hasher stands for, and a part behind it
+both_told : {told : Option Contents} {left : List ℕ} {mode : Mode} {hasher : State} {len : ℕ} {node : Node}
+    (held : HasHashed told left mode hasher) (part : IsPartOf told left mode (length_of hasher) len node)
+    → IsSome told → held.before ++ part.bytes ≡ take (length_of hasher + len) left
+both_told {told} {left} {mode} {hasher} {len} {node} held part is_told =
+    let at = length-StandsFor hasher held.before held.stands in
+    let first : held.before ≡ take (length_of hasher) left = held.is is_told ∙ ap (λ k. take k left) at in
+    (λ i. first i ++ part.is is_told i)
+    ∙ sym (take_two (length_of hasher) len left (sym (ap (λ (xs : List ℕ). length xs) first) ∙ at))
 
--- a full piece more
-pub pushed : {told : Option Contents} {left : List ℕ} {mode : Mode} {hasher after : State} {piece : Piece}
-    → HasHashed told left mode hasher → IsPieceOf told left mode piece
-    → piece.index * PIECE_LEN ≡ length_of hasher → PIECE_LEN ≤ piece.len
-    → ((before window : List ℕ) → StandsFor hasher before → length window ≡ 1024 * 2 ^ PIECE_LEVEL
-    → piece.node ≡ top (mode_of hasher) (length before / 1024) window → StandsFor after (before ++ window))
-    → length_of after ≡ length_of hasher + 1024 * 2 ^ PIECE_LEVEL
+-- a region more
+pub pushed : {told : Option Contents} {left : List ℕ} {mode : Mode} {hasher after : State} {node : Node}
+    → HasHashed told left mode hasher → IsPartOf told left mode (length_of hasher) REGION_LEN node
+    → ((before window : List ℕ) → StandsFor hasher before → length window ≡ 1024 * 2 ^ REGION_LEVEL
+    → node ≡ top (mode_of hasher) (length before / 1024) window → StandsFor after (before ++ window))
+    → length_of after ≡ length_of hasher + 1024 * 2 ^ REGION_LEVEL
     → mode_of after ≡ mode_of hasher
     → HasHashed told left mode after
-pushed {told} {left} {mode} {hasher} {after} {piece} held is_piece next full push len same =
-    let at = at_length held piece.index next in
-    let size : length is_piece.bytes ≡ PIECE_LEN = omega (arith, is_piece.len, is_piece.little, full) in
-    let both = length-append held.before is_piece.bytes in
+pushed {told} {left} {mode} {hasher} {after} {node} held part push len same =
+    let at = length-StandsFor hasher held.before held.stands in
+    let size : length (held.before ++ part.bytes) ≡ length_of hasher + REGION_LEN =
+    length-append held.before part.bytes ∙ (λ i. at i + part.len_is i) in
     record {
-      before = held.before ++ is_piece.bytes;
-      stands = push held.before is_piece.bytes held.stands size
-          (is_piece.node ∙ (λ i. top (sym held.mode_is i) (at i / 1024) is_piece.bytes));
+      before = held.before ++ part.bytes;
+      stands = push held.before part.bytes held.stands part.len_is
+          (part.node_is ∙ (λ i. top (sym held.mode_is i) (sym at i / 1024) part.bytes));
       mode_is = same ∙ held.mode_is;
-      aligned = ap (λ n. n % PIECE_LEN) len ∙ add-mod_right (length_of hasher) PIECE_LEN ∙ held.aligned;
-      is = λ is_told.
-          let n = length held.before in
-          let first = held.is is_told in
-          let second : is_piece.bytes ≡ take PIECE_LEN (drop n left) =
-          is_piece.is is_told ∙ ap (λ k. take PIECE_LEN (drop k left)) at in
-          (λ i. first i ++ second i)
-          ∙ sym (take_two n PIECE_LEN left (ap (λ (xs : List ℕ). length xs) (sym first)))
-          ∙ ap (λ k. take k left) (sym (both ∙ ap (λ k. n + k) size));
+      aligned = ap (λ n. n % REGION_LEN) len ∙ add-mod_right (length_of hasher) REGION_LEN ∙ held.aligned;
+      is = λ is_told. both_told held part is_told ∙ ap (λ k. take k left) (sym size);
     }
 
--- the last piece, which is not full
-pub ended : {told : Option Contents} {left : List ℕ} {mode : Mode} {hasher : State} {piece : Piece}
-    (held : HasHashed told left mode hasher) (is_piece : IsPieceOf told left mode piece)
-    → piece.index * PIECE_LEN ≡ length_of hasher → piece.len < PIECE_LEN
-    → IsSome told → left ≡ held.before ++ is_piece.bytes
-ended {told} {left} {mode} {hasher} {piece} held is_piece next last is_told =
-    let n = length held.before in
-    let at = at_length held piece.index next in
-    let second : is_piece.bytes ≡ take PIECE_LEN (drop n left) =
-    is_piece.is is_told ∙ ap (λ k. take PIECE_LEN (drop k left)) at in
-    let few : length (take PIECE_LEN (drop n left)) < PIECE_LEN =
-    omega (arith, ap (λ (xs : List ℕ). length xs) second, is_piece.len, last) in
-    sym (take-append-drop n left)
-    ∙ (λ i. sym (held.is is_told) i ++ sym (second ∙ take_few PIECE_LEN (drop n left) few) i)
+-- the last part, with which the hasher stands for all
+pub ended : {told : Option Contents} {left : List ℕ} {mode : Mode} {hasher : State} {len : ℕ} {node : Node}
+    (held : HasHashed told left mode hasher) (part : IsPartOf told left mode (length_of hasher) len node)
+    → IsSome told → length left ≡ length_of hasher + len → left ≡ held.before ++ part.bytes
+ended {told} {left} {mode} {hasher} {len} {node} held part is_told whole =
+    sym (both_told held part is_told ∙ take_all (length_of hasher + len) left (omega (arith, whole)))

@@ -87,7 +87,7 @@ broke_early more broke = record {
 }
 
 -- a fault that no sink has a part in, before anything is said
-no_part : (a : Sheet) (text : List ℕ) → GainsPart a a text
+pub no_part : (a : Sheet) (text : List ℕ) → GainsPart a a text
 no_part a text = record { bytes = GainsBeginning-none a.held text; count = omega arith }
 
 pub broke_at_once : (a : Scene) (p : Report) (fault : RunFault) → sink_failures fault ≡ 0 → Broke a a [] p fault
@@ -158,7 +158,7 @@ caused_answered told limits kind name next x xs BadKey cause = cause
 caused_answered told limits kind name next x xs EndlessInput cause = cause
 
 -- after a script
-caused_later : (told : Option Contents) (sure : Bool) (limits : Limits) (s : Script) (tally : Tally)
+pub caused_later : (told : Option Contents) (sure : Bool) (limits : Limits) (s : Script) (tally : Tally)
     (next : Tally → Script) (xs ys : List Answer)
     (fault : RunFault) → AnswersFirst told sure s xs → IsComplete s xs
     → IsCausedBy fault told limits (next_of s tally next xs) ys

@@ -6,6 +6,7 @@ pub mod Options
 pub mod Scripts
 pub mod Desks
 pub mod Runs
+pub mod Owing
 pub mod Digests
 pub mod Sums
 pub mod Checks

@@ -1,21 +1,23 @@
 //! The items that come next, and what is known of them: their names are hashed beside one another.
 
-ghost use Rattle.std.specs.Prelude.{◌≡◌, ℕ, ◌+◌, ◌<◌, ◌≤◌, List, [], ◌∷◌, All, None, Option, take, true, length, replicate, vec_len, IfOk, IfSome, MatchOption, OnOk};
+ghost use Rattle.std.specs.Prelude.{◌≡◌, ℕ, ◌+◌, ◌<◌, ◌≤◌, List, [], ◌∷◌, All, None, Option, take, true, length, replicate, IfOk, IfSome, MatchOption, OnOk};
 ghost use Rattle.b3_core.specs.declared.modes.Mode.{Mode};
-ghost use Rattle.b3_check.specs.Ahead.{AreKnown, IsFound, IsKnown, IsNodeOf, tasks_then};
-ghost use Rattle.b3_check.specs.Contents.{Contents, HasContent};
+ghost use Rattle.b3_check.specs.Ahead.{AreKnown, IsFound, IsKnown, HasOutput, tasks_then};
+ghost use Rattle.b3_check.specs.Contents.{Contents};
 ghost use Rattle.b3_check.specs.Tasks.{IsFitItem, task_of};
 ghost use Rattle.b3_check.specs.declared.items.Item.{Item};
 
 use crate::crew::Crew;
 use crate::items::{Agenda, Item};
+use crate::pieces::PIECE_LEN;
 use crate::shelf::Shelf;
 use b3_board::{Gate, MAX_WORKERS};
-use b3_core::{Mode, Node, top};
+use b3_core::Mode;
+use b3_hash::{Hasher, Xof};
 use std::alloc::{AllocError, Global};
 use std::collections::VecDeque;
 use std::sync::Wait;
-use std::sync::atomic::{AtomicUsize, Ordering};
+use std::sync::atomic::{AtomicU64, AtomicUsize, Ordering};
 use std::thread;
 use std::thread::Threads;
 
@@ -24,22 +26,22 @@ use std::thread::Threads;
 const FIRST_ROUND: usize = MAX_WORKERS as usize;
 
 /// How many items a round takes at most. Each takes twice as many as the one before.
-const MOST_ITEMS: usize = 4_096;
+const MOST_ITEMS: usize = 1_024;
 
 /// A round looks at no further item once it has hashed so many bytes.
-const ROUND_LEN: usize = 1 << 25;
+const ROUND_LEN: u64 = 1 << 26;
 
-/// How long a content may be that is hashed beside others, and a byte after it that tells that it has ended.
-const ROOM_LEN: usize = (1 << 21) + 1;
+/// How many bytes a content may have that is hashed beside others. One worker reads a longer one for too long.
+const LONGEST: u64 = 1 << 25;
 
-/// The node of the item at a place.
+/// The output of the item at a place.
 #[derive(Drop)]
 pub struct Found {
     place: usize,
-    node: Node,
+    output: Xof,
 }
 
-/// What a worker has in hand: room for a content, and what it found in this round.
+/// What a worker has in hand: room for a piece of a content, and what it found in this round.
 #[derive(Drop)]
 pub struct Hand {
     room: Vec<u8>,
@@ -47,10 +49,10 @@ pub struct Hand {
 }
 
 impl Hand {
-    /// A hand that has found nothing. Its room grows for the contents that it reads.
+    /// A hand that has found nothing. Its room is touched when it first reads.
     pub fn new(alloc: Global) -> Result<Hand, AllocError> {
         Ok(Hand {
-            room: Vec::with_capacity(alloc, ROOM_LEN)?,
+            room: Vec::with_capacity(alloc, PIECE_LEN)?,
             found: Vec::with_capacity(alloc, MOST_ITEMS)?,
         })
     }
@@ -62,7 +64,7 @@ impl Hand {
         mode: &Mode,
         items: &VecDeque<Item<'_>>,
         taken: &AtomicUsize,
-        hashed: &AtomicUsize,
+        hashed: &AtomicU64,
     )
         ensures { All (IsFound (S.told shelf.now) mode.now items.now.items) self.new.found.items }
     {
@@ -78,40 +80,27 @@ impl Hand {
             let Item::Ask(subject) = item else {
                 continue;
             };
-            let Some((node, len)) = self.node_of(shelf, mode, subject.name()) else {
+            let Some((output, len)) = self.output_of(shelf, mode, subject.name()) else {
                 continue;
             };
             hashed.fetch_add(len, Ordering::SeqCst);
-            keep(&mut self.found, Found { place, node });
+            keep(&mut self.found, Found { place, output });
         }
     }
 
-    // The node of the whole content of a name, and how many bytes it has, if it is soon read and not too long.
-    fn node_of<S: Shelf>(&mut self, shelf: &S, mode: &Mode, name: &str) -> Option<(Node, usize)>
-        ensures node { IfSome result (λ done. IsNodeOf (S.told shelf.now) mode.now name.now done.0) }
+    // The output of the whole content of a name, and how many bytes it has, if it is soon read and not too long.
+    fn output_of<S: Shelf>(&mut self, shelf: &S, mode: &Mode, name: &str) -> Option<(Xof, u64)>
+        ensures output { IfSome result (λ done. HasOutput (S.told shelf.now) mode.now name.now done.0) }
         ensures found { self.new.found ≡ self.old.found }
     {
-        let len = self.read(shelf, name)?;
-        Some((top(mode, 0, &self.room[..len]), len))
-    }
-
-    // Reads the whole content of a name into the room, which grows for it.
-    fn read<S: Shelf>(&mut self, shelf: &S, name: &str) -> Option<usize>
-        ensures within { IfSome result (λ n. n ≤ vec_len self.new.room) }
-        ensures content { IfSome result (λ n. HasContent (S.told shelf.now) name.now (take n self.new.room.items)) }
-        ensures found { self.new.found ≡ self.old.found }
-    {
-        let needed = match shelf.peek(name, self.room.as_mut_slice()) {
-            Ok(len) => return Some(len),
-            Err(needed) => needed,
-        };
-        if needed <= self.room.len() || needed > ROOM_LEN {
+        if self.room.is_empty() {
+            self.room.resize(PIECE_LEN, 0).ok()?;
+        }
+        let mut hasher = Hasher::new(*mode);
+        if !shelf.peek(name, LONGEST, self.room.as_mut_slice(), &mut hasher) {
             return None;
         }
-        self.room
-            .resize(needed.next_power_of_two().min(ROOM_LEN), 0)
-            .ok()?;
-        shelf.peek(name, self.room.as_mut_slice()).ok()
+        Some((hasher.finish(), hasher.len()))
     }
 }
 
@@ -136,14 +125,14 @@ pub fn hands(alloc: Global, workers: usize) -> Result<Vec<Hand>, AllocError> {
     Ok(hands)
 }
 
-/// The items of an agenda that come next, and the nodes that were found for the first of them.
+/// The items of an agenda that come next, and the outputs that were found for the first of them.
 #[derive(Drop)]
 pub struct Ahead<'a> {
     alloc: Global,
     // how many items the next round takes
     round: usize,
     pub items: VecDeque<Item<'a>>,
-    pub nodes: VecDeque<Option<Node>>,
+    pub outputs: VecDeque<Option<Xof>>,
     ghost some: { 0 < round },
 }
 
@@ -151,17 +140,17 @@ impl<'a> Ahead<'a> {
     /// No item is taken.
     pub fn new(alloc: Global) -> Ahead<'a>
         ensures items { result.items.items ≡ [] }
-        ensures nodes { result.nodes.items ≡ [] }
+        ensures outputs { result.outputs.items ≡ [] }
     {
         Ahead {
             alloc,
             round: FIRST_ROUND,
             items: VecDeque::new(alloc),
-            nodes: VecDeque::new(alloc),
+            outputs: VecDeque::new(alloc),
         }
     }
 
-    /// The next item of the agenda, with its node if that was found.
+    /// The next item of the agenda, with its output if that was found.
     pub fn next<R: Threads + Wait + Sync, G: Gate + Sync, S: Shelf + Sync, P: Agenda<'a>>(
         &mut self,
         crew: &Crew<'_, R, G>,
@@ -169,13 +158,13 @@ impl<'a> Ahead<'a> {
         shelf: &S,
         mode: &Mode,
         agenda: &mut P,
-    ) -> Result<Option<(Item<'a>, Option<Node>)>, AllocError>
-        requires known { AreKnown (S.told shelf.now) mode.now self.old.items.items self.old.nodes.items }
+    ) -> Result<Option<(Item<'a>, Option<Xof>)>, AllocError>
+        requires known { AreKnown (S.told shelf.now) mode.now self.old.items.items self.old.outputs.items }
         ensures next { IfOk result (λ next. MatchOption next (tasks_then self.old.items.items (P.left agenda.old) ≡ [])
             (λ done. tasks_then self.old.items.items (P.left agenda.old)
             ≡ task_of done.0 ∷ tasks_then self.new.items.items (P.left agenda.new))) }
-        ensures known { OnOk result (AreKnown (S.told shelf.now) mode.now self.new.items.items self.new.nodes.items) }
-        ensures node { IfOk result (λ next. IfSome next (λ done.
+        ensures known { OnOk result (AreKnown (S.told shelf.now) mode.now self.new.items.items self.new.outputs.items) }
+        ensures output { IfOk result (λ next. IfSome next (λ done.
             IsKnown (S.told shelf.now) mode.now (task_of done.0) done.1)) }
         ensures fit { IfOk result (λ next. IfSome next (λ done. (len : ℕ)
             → All (IsFitItem len) self.old.items.items → P.fits agenda.old len ≡ true → IsFitItem len done.0)) }
@@ -187,6 +176,11 @@ impl<'a> Ahead<'a> {
         Ok(self.pop())
     }
 
+    /// Whether the output of the next item is known, so that it is soon done.
+    pub fn knows_next(&self) -> bool {
+        matches!(self.outputs.front(), Some(Some(_)))
+    }
+
     // Takes and looks at items, where nothing is known of the first.
     fn refill<R: Threads + Wait + Sync, G: Gate + Sync, S: Shelf + Sync, P: Agenda<'a>>(
         &mut self,
@@ -196,43 +190,43 @@ impl<'a> Ahead<'a> {
         mode: &Mode,
         agenda: &mut P,
     ) -> Result<(), AllocError>
-        requires known { AreKnown (S.told shelf.now) mode.now self.old.items.items self.old.nodes.items }
+        requires known { AreKnown (S.told shelf.now) mode.now self.old.items.items self.old.outputs.items }
         ensures left { OnOk result (tasks_then self.new.items.items (P.left agenda.new)
             ≡ tasks_then self.old.items.items (P.left agenda.old)) }
         ensures all { OnOk result (self.new.items.items ≡ [] → P.left agenda.new ≡ []) }
-        ensures known { OnOk result (AreKnown (S.told shelf.now) mode.now self.new.items.items self.new.nodes.items) }
+        ensures known { OnOk result (AreKnown (S.told shelf.now) mode.now self.new.items.items self.new.outputs.items) }
         ensures fit { OnOk result ((len : ℕ) → All (IsFitItem len) self.old.items.items
             → P.fits agenda.old len ≡ true → All (IsFitItem len) self.new.items.items) }
         ensures still_fits { OnOk result ((len : ℕ) → P.fits agenda.new len ≡ P.fits agenda.old len) }
     {
-        if !self.nodes.is_empty() {
+        if !self.outputs.is_empty() {
             return Ok(());
         }
         let count = if hands.len() > 1 { self.round } else { 1 };
         take(&mut self.items, agenda, count)?;
-        self.nodes = look(self.alloc, crew, hands, shelf, mode, &self.items)?;
+        self.outputs = look(self.alloc, crew, hands, shelf, mode, &self.items)?;
         self.round = self.round.saturating_mul(2).min(MOST_ITEMS);
         Ok(())
     }
 
-    // Takes the first item with its node.
-    fn pop(&mut self) -> Option<(Item<'a>, Option<Node>)>
+    // Takes the first item with its output.
+    fn pop(&mut self) -> Option<(Item<'a>, Option<Xof>)>
         ensures items { MatchOption result (self.old.items.items ≡ [])
             (λ done. self.old.items.items ≡ done.0 ∷ self.new.items.items) }
         ensures none { self.old.items.items ≡ [] → self.new.items.items ≡ [] }
         ensures known { (told : Option Contents) (mode : Mode)
-            → AreKnown told mode self.old.items.items self.old.nodes.items
-            → AreKnown told mode self.new.items.items self.new.nodes.items }
+            → AreKnown told mode self.old.items.items self.old.outputs.items
+            → AreKnown told mode self.new.items.items self.new.outputs.items }
         ensures fit { (len : ℕ) → All (IsFitItem len) self.old.items.items → All (IsFitItem len) self.new.items.items }
         ensures first_fit { IfSome result (λ done. (len : ℕ) → All (IsFitItem len) self.old.items.items
             → IsFitItem len done.0) }
-        ensures node { IfSome result (λ done. (told : Option Contents) (mode : Mode)
-            → AreKnown told mode self.old.items.items self.old.nodes.items
+        ensures output { IfSome result (λ done. (told : Option Contents) (mode : Mode)
+            → AreKnown told mode self.old.items.items self.old.outputs.items
             → IsKnown told mode (task_of done.0) done.1) }
     {
         let item = self.items.pop_front()?;
-        let node = self.nodes.pop_front().unwrap_or(None);
-        Some((item, node))
+        let output = self.outputs.pop_front().unwrap_or(None);
+        Some((item, output))
     }
 }
 
@@ -260,7 +254,7 @@ fn take<'a, P: Agenda<'a>>(
     Ok(())
 }
 
-// The nodes that are found for the first items: the hands look at them beside one another.
+// The outputs that are found for the first items: the hands look at them beside one another.
 fn look<R: Threads + Wait + Sync, G: Gate + Sync, S: Shelf + Sync>(
     alloc: Global,
     crew: &Crew<'_, R, G>,
@@ -268,8 +262,8 @@ fn look<R: Threads + Wait + Sync, G: Gate + Sync, S: Shelf + Sync>(
     shelf: &S,
     mode: &Mode,
     items: &VecDeque<Item<'_>>,
-) -> Result<VecDeque<Option<Node>>, AllocError>
-    ensures { IfOk result (λ nodes. AreKnown (S.told shelf.now) mode.now items.now.items nodes.items) }
+) -> Result<VecDeque<Option<Xof>>, AllocError>
+    ensures { IfOk result (λ outputs. AreKnown (S.told shelf.now) mode.now items.now.items outputs.items) }
 {
     if items.len() < 2 || hands.len() < 2 {
         return Ok(VecDeque::new(alloc));
@@ -278,11 +272,11 @@ fn look<R: Threads + Wait + Sync, G: Gate + Sync, S: Shelf + Sync>(
     let count = hands.len().min(items.len());
     let hands = &mut hands[..count];
     let looked = look_all(crew, hands, shelf, mode, items).min(items.len());
-    let mut nodes = nothing_known(alloc, looked)?;
+    let mut outputs = nothing_known(alloc, looked)?;
     for hand in hands.iter() {
-        note(&mut nodes, hand.found.as_slice());
+        note(&mut outputs, hand.found.as_slice());
     }
-    Ok(VecDeque::from_vec(nodes))
+    Ok(VecDeque::from_vec(outputs))
 }
 
 // Lets the hands look at items, each in a thread of its own, and answers how many were taken.
@@ -297,7 +291,7 @@ fn look_all<R: Threads + Wait + Sync, G: Gate + Sync, S: Shelf + Sync>(
     ensures { All (λ hand. All (IsFound (S.told shelf.now) mode.now items.now.items) hand.found.items) hands.new }
 {
     let taken = AtomicUsize::new(0);
-    let hashed = AtomicUsize::new(0);
+    let hashed = AtomicU64::new(0);
     let threads = hands.len();
     thread::for_each_mut(
         crew.runtime(),
@@ -311,30 +305,30 @@ fn look_all<R: Threads + Wait + Sync, G: Gate + Sync, S: Shelf + Sync>(
     taken.load(Ordering::SeqCst)
 }
 
-// So many nodes that are not known.
-fn nothing_known(alloc: Global, count: usize) -> Result<Vec<Option<Node>>, AllocError>
-    ensures { IfOk result (λ nodes. nodes.items ≡ replicate count None) }
+// So many outputs that are not known.
+fn nothing_known(alloc: Global, count: usize) -> Result<Vec<Option<Xof>>, AllocError>
+    ensures { IfOk result (λ outputs. outputs.items ≡ replicate count None) }
 {
     vec![in alloc; None; count]
 }
 
 // Notes what a hand found.
-fn note(nodes: &mut Vec<Option<Node>>, found: &[Found])
+fn note(outputs: &mut Vec<Option<Xof>>, found: &[Found])
     ensures { (told : Option Contents) (mode : Mode) (items : List Item) → All (IsFound told mode items) found.now
-        → AreKnown told mode items nodes.old.items → AreKnown told mode items nodes.new.items }
+        → AreKnown told mode items outputs.old.items → AreKnown told mode items outputs.new.items }
 {
     for one in found {
-        note_one(nodes, one);
+        note_one(outputs, one);
     }
 }
 
 // Notes what was found for one item, if it has a place.
 #[tactic(auto, using(crate::proofs::AheadLemmas::known_set))]
-fn note_one(nodes: &mut Vec<Option<Node>>, one: &Found)
+fn note_one(outputs: &mut Vec<Option<Xof>>, one: &Found)
     ensures { (told : Option Contents) (mode : Mode) (items : List Item) → IsFound told mode items one.now
-        → AreKnown told mode items nodes.old.items → AreKnown told mode items nodes.new.items }
+        → AreKnown told mode items outputs.old.items → AreKnown told mode items outputs.new.items }
 {
-    if one.place < nodes.len() {
-        nodes[one.place] = Some(one.node);
+    if one.place < outputs.len() {
+        outputs[one.place] = Some(one.output);
     }
 }

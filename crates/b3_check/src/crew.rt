@@ -1,6 +1,8 @@
-//! Who hashes a window.
+//! Who hashes a window, and who a part of a long file.
 
-ghost use Rattle.std.specs.Prelude.{◌≡◌, ◌+◌, ◌<◌, ◌≤◌, ◌^◌, IfErr, IfOk, length};
+ghost use Rattle.std.specs.Prelude.{◌≡◌, ℕ, ◌+◌, ◌/◌, ◌<◌, ◌≤◌, ◌^◌, List, IfErr, IfOk, IfSome, Some, length};
+ghost use Rattle.b3_board.specs.Regions.{region};
+ghost use Rattle.b3_board.specs.Spans.{IsRootOf};
 ghost use Rattle.b3_board.specs.declared.fault.BoardFault.TheVariants as BoardFault;
 ghost use Rattle.b3_check.specs.declared.buffer.TheConstants.{MAX_WINDOW_LEN};
 ghost use Rattle.b3_check.specs.declared.fault.RunFault.TheVariants as RunFault;
@@ -8,8 +10,9 @@ ghost use Rattle.b3_core.specs.Tree.{chunks, top};
 
 use crate::buffer::{MAX_WINDOW_LEN, WindowSize};
 use crate::fault::RunFault;
-use b3_board::{BoardFault, Gate, Plan, default_grain, hash_parallel};
-use b3_core::{Mode, Node, chunks, top};
+use crate::pieces::PIECE_CHUNKS;
+use b3_board::{BoardFault, Gate, Plan, Source, default_grain, hash_parallel, hash_source};
+use b3_core::{CHUNK_LEN, Mode, Node, chunks, top};
 use std::alloc::Global;
 use std::sync::Wait;
 use std::thread::Threads;
@@ -46,7 +49,9 @@ impl<'c, R: Threads + Wait + Sync, G: Gate + Sync> Crew<'c, R, G> {
 
     /// How many workers read for themselves, each what no other reads. Behind a gate that may hold a worker
     /// none does: there all work goes by the board, whose workers do the work of one that is held.
-    pub fn readers(&self) -> usize {
+    pub fn readers(&self) -> usize
+        ensures { result ≤ 64 }
+    {
         if self.gate.may_hold() {
             return 0;
         }
@@ -91,5 +96,41 @@ impl<'c, R: Threads + Wait + Sync, G: Gate + Sync> Crew<'c, R, G> {
         let plan = Plan::at(self.alloc, bytes, *mode, first, grain)?;
         let report = hash_parallel(self.rt, self.alloc, &plan, self.workers, self.gate)?;
         Ok(report.root.node())
+    }
+
+    /// The node of `len` bytes of a source from `place` on, which is the beginning of a chunk (BLAKE3 (2020), 2.1). The
+    /// workers share its pieces, and each reads into a part of the room. Nothing where some of them could not be read,
+    /// or where there is no memory for their board.
+    pub fn source_node<S: Source + Sync>(
+        &self,
+        source: &S,
+        place: u64,
+        len: u64,
+        mode: &Mode,
+        room: &mut [u8],
+    ) -> Option<Node>
+        requires end { place + len < 2 ^ 63 }
+        requires there { (all : List ℕ) → S.told source.now ≡ Some all → place + len ≤ length all }
+        ensures { IfSome result (λ node.
+            IsRootOf (region (S.told source.now) place len) mode.now (place / 1024) node) }
+    {
+        let first = place / CHUNK_LEN as u64;
+        let found = hash_source(
+            self.rt,
+            self.alloc,
+            source,
+            place,
+            len,
+            *mode,
+            first,
+            PIECE_CHUNKS,
+            self.workers,
+            room,
+            self.gate,
+        );
+        match found {
+            Ok(Some(report)) => Some(report.root.node()),
+            _ => None,
+        }
     }
 }

@@ -1,7 +1,8 @@
 //! Where a run reads and writes.
 
 ghost use Rattle.std.specs.Prelude.{◌≡◌, ◌-◌, ◌^◌, ◌<◌, ◌≤◌, IfSome, OnOk, vec_len};
-ghost use Rattle.b3_check.specs.Ahead.{IsNodeOf};
+ghost use Rattle.b3_check.specs.Ahead.{HasOutput};
+ghost use Rattle.b3_check.specs.Owing.{SaysOwing, on_out};
 ghost use Rattle.b3_check.specs.Reading.{Answered, Asks, Hashes, key_answer};
 ghost use Rattle.b3_check.specs.Runs.{HasRoom};
 ghost use Rattle.b3_check.specs.Scripts.Kind.{Key, Listed};
@@ -19,7 +20,7 @@ use crate::shelf::{NoContent, Shelf};
 use crate::sink::Sink;
 use crate::writing::write_all;
 use b3_board::Gate;
-use b3_core::Node;
+use b3_hash::Xof;
 use std::sync::Wait;
 use std::thread::Threads;
 
@@ -47,7 +48,7 @@ impl<'s, 'o, 'e, S, O, E> Drop for Desk<'s, 'o, 'e, S, O, E> {
 impl<'s, 'o, 'e, S: Shelf + Send + Sync, O: Sink, E: Sink> Desk<'s, 'o, 'e, S, O, E> {
     ghost use Rattle.b3_check.specs.Desks.{loans, scene_of};
 
-    /// Hashes the content of a name, of which the node may be known, and answers whether it can be read, or why
+    /// Hashes the content of a name, of which the output may be known, and answers whether it can be read, or why
     /// not.
     #[tactic(auto, using(crate::proofs::AheadLemmas::digested_known))]
     pub fn hash<R: Threads + Wait + Sync, G: Gate + Sync>(
@@ -55,20 +56,21 @@ impl<'s, 'o, 'e, S: Shelf + Send + Sync, O: Sink, E: Sink> Desk<'s, 'o, 'e, S, O
         crew: &Crew<'_, R, G>,
         digester: &mut Digester,
         name: &str,
-        node: Option<Node>,
+        known: Option<Xof>,
         limits: Limits,
     ) -> Result<Result<(), NoContent>, RunFault>
-        requires known { IfSome node (IsNodeOf (S.told self.old.shelf.now) digester.old.output.mode name.now) }
+        requires known { IfSome known (HasOutput (S.told self.old.shelf.now) digester.old.output.mode name.now) }
         requires room { HasRoom (scene_of S.Shelf O.Sink E.Sink self.old) 1 }
         requires some_turns { 0 < limits.turns }
         requires turns { limits.turns ≤ 2 ^ 40 }
         ensures hashed { Hashes digester.old.output limits name.now (scene_of S.Shelf O.Sink E.Sink self.old)
             (scene_of S.Shelf O.Sink E.Sink self.new) digester.new.digest.items result }
         ensures output { digester.new.output ≡ digester.old.output }
+        ensures unsaid { self.new.out.now ≡ self.old.out.now }
         ensures loans { loans self.new ≡ loans self.old }
     {
-        if let Some(node) = node {
-            digester.take_node(node);
+        if let Some(output) = known {
+            digester.take_digest(output);
             return Ok(Ok(()));
         }
         digester.hash_name(crew, self.shelf, name, limits)
@@ -109,6 +111,40 @@ impl<'s, 'o, 'e, S: Shelf + Send + Sync, O: Sink, E: Sink> Desk<'s, 'o, 'e, S, O
     {
         write_all(self.out, said.out.as_slice())?;
         write_all(self.err, said.err.as_slice())?;
+        Ok(())
+    }
+
+    /// Says a report after lines for `out` that are still to be written. Where more is said soon, its own lines
+    /// are among them.
+    pub fn say_after(
+        &mut self,
+        lines: &mut Vec<u8>,
+        said: &Said,
+        is_more_soon: bool,
+    ) -> Result<(), RunFault>
+        requires { HasRoom (scene_of S.Shelf O.Sink E.Sink self.old) 0 }
+        ensures said { SaysOwing (report_of said.now) (scene_of S.Shelf O.Sink E.Sink self.old)
+            (scene_of S.Shelf O.Sink E.Sink self.new) lines.old.items lines.new.items result }
+        ensures loans { loans self.new ≡ loans self.old }
+    {
+        lines.extend_from_slice(said.out.as_slice())?;
+        if is_more_soon && said.err.is_empty() && self.out.may_wait() {
+            return Ok(());
+        }
+        write_all(self.out, lines.as_slice())?;
+        lines.clear();
+        write_all(self.err, said.err.as_slice())?;
+        Ok(())
+    }
+
+    /// Writes these lines to `out`.
+    pub fn write_lines(&mut self, lines: &[u8]) -> Result<(), RunFault>
+        requires { HasRoom (scene_of S.Shelf O.Sink E.Sink self.old) 0 }
+        ensures said { Says (on_out lines.now) (scene_of S.Shelf O.Sink E.Sink self.old)
+            (scene_of S.Shelf O.Sink E.Sink self.new) result }
+        ensures loans { loans self.new ≡ loans self.old }
+    {
+        write_all(self.out, lines)?;
         Ok(())
     }
 }

@@ -14,7 +14,7 @@ use crate::buffer::{Buffer, WindowSize};
 use crate::crew::Crew;
 use crate::fault::RunFault;
 use crate::options::Limits;
-use crate::pieces::{Hand, hands, hash_pieces};
+use crate::pieces::{hash_pieces, room};
 use crate::room::zeros;
 use crate::shelf::{NoContent, Shelf};
 use crate::window::{Found, fill};
@@ -42,8 +42,8 @@ pub struct Output {
 pub struct Digester {
     output: Output,
     window: Buffer,
-    // what those hold who read a long file in pieces
-    hands: Vec<Hand>,
+    // where the workers read the pieces of a long file
+    room: Vec<u8>,
     digest: Vec<u8>,
     ghost in_output: { output.seek + output.length ≤ 2 ^ 64 - 1 },
     ghost digest_len: { vec_len digest ≡ output.length },
@@ -57,14 +57,15 @@ impl Digester {
         size: WindowSize,
         readers: usize,
     ) -> Result<Digester, AllocError>
-        requires { output.seek + output.length ≤ 2 ^ 64 - 1 }
+        requires in_output { output.seek + output.length ≤ 2 ^ 64 - 1 }
+        requires readers { readers ≤ 64 }
         ensures { IfOk result (λ digester. digester.output ≡ output) }
     {
         let digest = zeros(alloc, output.length as usize)?;
         Ok(Digester {
             output,
             window: Buffer::new(alloc, size)?,
-            hands: hands(alloc, readers)?,
+            room: room(alloc, readers)?,
             digest,
         })
     }
@@ -136,8 +137,8 @@ impl Digester {
         ensures still_sure { S.is_sure shelf.new ≡ S.is_sure shelf.old }
         ensures output { self.new.output ≡ self.old.output }
     {
-        let hands = self.hands.as_mut_slice();
-        if let Some(output) = hash_pieces(crew, &*shelf, &self.output.mode, limits, hands) {
+        let mode = self.output.mode;
+        if let Some(output) = hash_pieces(crew, &*shelf, &mode, limits, &mut self.room) {
             return Ok(Some(output));
         }
         self.hash_windows(crew, shelf, limits)
@@ -224,16 +225,8 @@ impl Digester {
         Ok(hasher.finish_with(last))
     }
 
-    /// Takes the digest of a content of which this is the node.
-    pub fn take_node(&mut self, node: Node)
-        ensures digest { self.new.digest.items ≡ output_bytes node self.old.output.seek self.old.output.length }
-        ensures output { self.new.output ≡ self.old.output }
-    {
-        self.take_digest(Xof::from_node(node));
-    }
-
-    // Takes the digest from the output of a content.
-    fn take_digest(&mut self, mut output: Xof)
+    /// Takes the digest from the output of a content.
+    pub fn take_digest(&mut self, mut output: Xof)
         ensures digest { self.new.digest.items ≡ output_bytes output.node self.old.output.seek self.old.output.length }
         ensures output { self.new.output ≡ self.old.output }
     {

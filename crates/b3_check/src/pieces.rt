@@ -1,30 +1,25 @@
-//! A long file that all workers read and hash at once, piece by piece.
-//!
-//! The nodes of a round's pieces are kept in lists, and pushed in order when the round is over. A board over a
-//! source of bytes can stand in their place: it then takes the place of the hands, of `run_round` and of `push_pieces`.
+//! A long file that all workers read and hash at once: a board over each region of it takes the nodes of its pieces.
 
-ghost use Rattle.std.specs.Prelude.{◌≡◌, ◌+◌, ◌*◌, ◌%◌, ◌<◌, ◌≤◌, ◌^◌, All, IfOk, IfSome, IsTrue, OnOk, length, vec_len};
-ghost use Rattle.std.specs.Thread.{IsSync};
-ghost use Rattle.b3_check.specs.Pieces.{HasHashed, HasPieces, IsPieceOf};
+ghost use Rattle.std.specs.Option.{option_map};
+ghost use Rattle.std.specs.Prelude.{◌≡◌, ◌+◌, ◌*◌, ◌/◌, ◌^◌, ◌<◌, ◌≤◌, IfSome, IsSome, IsTrue, length};
+ghost use Rattle.b3_check.specs.Pieces.{HasHashed, IsPartOf};
 ghost use Rattle.b3_check.specs.Reading.{IsOutputOf};
-ghost use Rattle.b3_check.specs.declared.pieces.TheConstants.{MOST_PIECES, PIECE_LEN};
+ghost use Rattle.b3_check.specs.declared.pieces.TheConstants.{MOST_LEN, PIECE_LEN, REGION_LEN};
 ghost use Rattle.b3_hash.specs.Hashers.{length_of};
 
 use crate::crew::Crew;
 use crate::options::Limits;
 use crate::room::READ_LEN;
 use crate::shelf::Shelf;
-use b3_board::Gate;
-use b3_core::{CHUNK_LEN, Mode, Node, top};
+use b3_board::{Gate, Source};
+use b3_core::{Mode, Node};
 use b3_hash::{Hasher, Xof};
 use std::alloc::{AllocError, Global};
 use std::sync::Wait;
-use std::sync::atomic::{AtomicU64, Ordering};
-use std::thread;
 use std::thread::Threads;
 
-/// A piece has 2^PIECE_LEVEL chunks.
-pub const PIECE_LEVEL: u32 = 8;
+/// How many chunks a piece has. A worker reads one at a time, into room that stays in its core's cache.
+pub const PIECE_CHUNKS: u64 = 256;
 
 /// How many bytes a piece has.
 pub const PIECE_LEN: usize = 1 << 18;
@@ -32,250 +27,155 @@ pub const PIECE_LEN: usize = 1 << 18;
 /// How many reads a piece may take.
 const PIECE_TURNS: u64 = (PIECE_LEN / READ_LEN) as u64;
 
-/// How many pieces the workers go through before their nodes are pushed.
-const ROUND: u64 = 1_024;
+/// A region has 2^REGION_LEVEL chunks, as many as a board of pieces takes.
+pub const REGION_LEVEL: u32 = 18;
 
-/// How many pieces a content has at most that is read in pieces.
-pub const MOST_PIECES: u64 = 1 << 32;
+/// How many bytes a region has.
+pub const REGION_LEN: u64 = 1 << 28;
 
-/// A piece that was read and hashed: which one it is, how many bytes it has, and its node.
-#[derive(Clone, Copy)]
-pub struct Piece {
-    pub index: u64,
-    pub len: usize,
-    pub node: Node,
-}
+/// A content that is read in pieces has fewer bytes.
+pub const MOST_LEN: u64 = 1 << 50;
 
-/// What a worker holds: the room that it reads into, and the pieces that it hashed in this round, by
-/// ascending index.
+/// What is left of the file that a shelf has begun, as a source for a board.
 #[derive(Drop)]
-pub struct Hand {
-    pub room: Vec<u8>,
-    pub done: Vec<Piece>,
+struct Rest<'s, S> {
+    shelf: &'s S,
 }
 
-impl Hand {
-    /// A hand that holds nothing. It takes its memory here, and touches it as it fills.
-    pub fn new(alloc: Global) -> Result<Hand, AllocError> {
-        Ok(Hand {
-            room: Vec::with_capacity(alloc, PIECE_LEN)?,
-            done: Vec::with_capacity(alloc, ROUND as usize)?,
-        })
-    }
+impl<S: Shelf> Source for Rest<'_, S> {
+    ghost told = { λ rest. option_map (λ _. S.left rest.shelf.now) (S.told rest.shelf.now) };
 
-    // The piece of this index, by halves, if it is here.
-    fn find<S: Shelf>(&self, _shelf: &S, _mode: &Mode, index: u64) -> Option<Piece>
-        requires { All (IsPieceOf (S.told _shelf.now) (S.left _shelf.now) _mode.now) self.now.done.items }
-        ensures piece { IfSome result (λ piece.
-            IsPieceOf (S.told _shelf.now) (S.left _shelf.now) _mode.now piece) }
-        ensures index { IfSome result (λ piece. piece.index ≡ index) }
-    {
-        let mut low = 0usize;
-        let mut high = self.done.len();
-        for _ in 0..64u32 {
-            let middle = low.wrapping_add(high) / 2;
-            let piece = self.done.get(middle)?;
-            if piece.index == index {
-                return Some(*piece);
-            }
-            if piece.index < index {
-                low = middle.wrapping_add(1);
-            } else {
-                high = middle;
-            }
-        }
-        None
+    ghost sure = { λ _ _. ⊥ };
+
+    fn read_at(&self, place: u64, room: &mut [u8]) -> Option<usize> {
+        self.shelf.read_at(place, room)
     }
 }
 
-/// So many hands.
-pub fn hands(alloc: Global, count: usize) -> Result<Vec<Hand>, AllocError> {
-    let mut hands = Vec::with_capacity(alloc, count)?;
-    for _ in 0..count {
-        hands.push(Hand::new(alloc)?)?;
-    }
-    Ok(hands)
+/// Room for the pieces of so many workers, which is touched when a long file comes.
+pub fn room(alloc: Global, readers: usize) -> Result<Vec<u8>, AllocError>
+    requires { readers ≤ 64 }
+{
+    Vec::with_capacity(alloc, readers * PIECE_LEN)
 }
 
-/// The output of what is left of the file that is begun. Nothing where it is to be read in order: it is not long, or
-/// the shelf does not give a piece of it, or it has not ended after as many reads as `limits` allow.
+/// The output of what is left of the file that is begun. Nothing where it is to be read in order: it is not long, it
+/// may take more reads than `limits` allow, it has not the length that it tells, or some of it could not be read.
 pub fn hash_pieces<R: Threads + Wait + Sync, G: Gate + Sync, S: Shelf + Send + Sync>(
     crew: &Crew<'_, R, G>,
     shelf: &S,
     mode: &Mode,
     limits: Limits,
-    hands: &mut [Hand],
+    room: &mut Vec<u8>,
 ) -> Option<Xof>
     ensures { IfSome result (λ output. IsOutputOf (S.told shelf.now) (S.left shelf.now) mode.now output) }
 {
-    if hands.is_empty() {
+    let len = shelf.len_hint();
+    if crew.readers() == 0 || !is_long(len, limits) || !has_length(shelf, len) {
         return None;
     }
-    let hint = shelf.len_hint();
-    if hint <= PIECE_LEN as u64 {
-        return None;
-    }
-    let expected = (hint / PIECE_LEN as u64).saturating_add(1);
-    let most = (limits.turns / PIECE_TURNS).min(MOST_PIECES);
-    let threads = (hands.len() as u64).min(expected) as usize;
-    let hands = hands.get_mut(..threads)?;
-    let mut hasher = Hasher::new(*mode);
-    'rounds: for _ in 0..most {
-        let first = hasher.len() / PIECE_LEN as u64;
-        let count = expected.saturating_sub(first).max(1).min(ROUND);
-        let end = first.saturating_add(count).min(most);
-        run_round(crew, shelf, mode, hands, first, end);
-        if let Some(output) = push_pieces(shelf, mode, &mut hasher, hands, count)? {
-            return Some(output);
-        }
-    }
-    None
+    let pieces = len.div_ceil(PIECE_LEN as u64);
+    make_room(room, crew.readers().min(pieces as usize)).ok()?;
+    hash_regions(crew, shelf, mode, len, room.as_mut_slice())
 }
 
-// Pushes so many pieces, or as far as the content goes, and answers its output where it has ended. Nothing
-// where a piece is not there.
-fn push_pieces<S: Shelf>(
-    shelf: &S,
-    mode: &Mode,
-    hasher: &mut Hasher,
-    hands: &[Hand],
-    count: u64,
-) -> Option<Option<Xof>>
-    requires hashed { HasHashed (S.told shelf.now) (S.left shelf.now) mode.now hasher.old }
-    requires pieces { HasPieces (S.told shelf.now) (S.left shelf.now) mode.now hands.now }
-    ensures hashed { IfSome result (λ ended. HasHashed (S.told shelf.now) (S.left shelf.now) mode.now hasher.new) }
-    ensures output { IfSome result (λ ended. IfSome ended (λ output.
-        IsOutputOf (S.told shelf.now) (S.left shelf.now) mode.now output)) }
+// Whether a file of so many bytes is worth the workers, and may be read in so many turns.
+fn is_long(len: u64, limits: Limits) -> bool
+    ensures { IsTrue result → (0 < len) × (len < MOST_LEN) }
 {
-    'pushes: for _ in 0..count {
-        let piece = find(shelf, mode, hands, hasher.len() / PIECE_LEN as u64)?;
-        if piece.len < PIECE_LEN {
-            return Some(Some(finish(shelf, mode, hasher, &piece)));
-        }
-        if !push(shelf, mode, hasher, &piece) {
-            return None;
-        }
-    }
-    Some(None)
+    len > PIECE_LEN as u64 && len < MOST_LEN && limits.turns / PIECE_TURNS > len / PIECE_LEN as u64
 }
 
-// Pushes the next piece, which is full, unless the input would be too long.
-fn push<S: Shelf>(shelf: &S, mode: &Mode, hasher: &mut Hasher, piece: &Piece) -> bool
-    requires hashed { HasHashed (S.told shelf.now) (S.left shelf.now) mode.now hasher.old }
-    requires piece { IsPieceOf (S.told shelf.now) (S.left shelf.now) mode.now piece.now }
-    requires next { piece.now.index * PIECE_LEN ≡ length_of hasher.old }
-    requires full { PIECE_LEN ≤ piece.now.len }
-    ensures { IsTrue result → HasHashed (S.told shelf.now) (S.left shelf.now) mode.now hasher.new }
+// Whether just so many bytes are left of the file: from the last of them on, one can be read.
+fn has_length<S: Shelf>(shelf: &S, len: u64) -> bool
+    requires { 0 < len }
+    ensures { IsTrue result → IsSome (S.told shelf.now) → length (S.left shelf.now) ≡ len }
 {
-    hasher.push_window(piece.node, PIECE_LEVEL).is_ok()
+    let mut room = [0; 2];
+    let Some(count) = shelf.read_at(len - 1, &mut room) else {
+        return false;
+    };
+    count == 1
 }
 
-// The output, where the next piece is the last and not full.
-fn finish<S: Shelf>(shelf: &S, mode: &Mode, hasher: &Hasher, piece: &Piece) -> Xof
-    requires hashed { HasHashed (S.told shelf.now) (S.left shelf.now) mode.now hasher.now }
-    requires piece { IsPieceOf (S.told shelf.now) (S.left shelf.now) mode.now piece.now }
-    requires next { piece.now.index * PIECE_LEN ≡ length_of hasher.now }
-    requires last { piece.now.len < PIECE_LEN }
-    ensures { IsOutputOf (S.told shelf.now) (S.left shelf.now) mode.now result }
+// Room for the pieces of so many workers; what is there is not written again.
+fn make_room(room: &mut Vec<u8>, readers: usize) -> Result<(), AllocError>
+    requires { readers ≤ 64 }
 {
-    if piece.len == 0 {
-        hasher.finish()
-    } else {
-        hasher.finish_with(piece.node)
-    }
-}
-
-// The piece of this index, whichever hand has it.
-fn find<S: Shelf>(shelf: &S, mode: &Mode, hands: &[Hand], index: u64) -> Option<Piece>
-    requires { HasPieces (S.told shelf.now) (S.left shelf.now) mode.now hands.now }
-    ensures piece { IfSome result (λ piece. IsPieceOf (S.told shelf.now) (S.left shelf.now) mode.now piece) }
-    ensures index { IfSome result (λ piece. piece.index ≡ index) }
-{
-    for hand in hands.iter() {
-        if let Some(piece) = hand.find(shelf, mode, index) {
-            return Some(piece);
-        }
-    }
-    None
-}
-
-// All workers read and hash the pieces from `first` to before `end`, each as many as it comes to.
-fn run_round<R: Threads + Wait + Sync, G: Gate + Sync, S: Shelf + Send + Sync>(
-    crew: &Crew<'_, R, G>,
-    shelf: &S,
-    mode: &Mode,
-    hands: &mut [Hand],
-    first: u64,
-    end: u64,
-)
-    requires end { end ≤ MOST_PIECES }
-    ensures { HasPieces (S.told shelf.now) (S.left shelf.now) mode.now hands.new }
-{
-    let next = AtomicU64::new(first);
-    let threads = hands.len();
-    if threads == 0 {
-        return;
-    }
-    thread::for_each_mut(
-        crew.runtime(),
-        hands,
-        threads,
-        &|_number, hand: &mut Hand|
-            requires { end ≤ MOST_PIECES }
-            ensures { All (IsPieceOf (S.told shelf.entry.now) (S.left shelf.entry.now) mode.entry.now)
-                hand.exit.now.done.items }
-        { work(shelf, mode, hand, end, &next) },
-    );
-}
-
-// A worker takes the next piece that nobody has taken, reads it and hashes it, until there is none before
-// `end`, or a piece is not full, or cannot be read.
-fn work<S: Shelf>(shelf: &S, mode: &Mode, hand: &mut Hand, end: u64, next: &AtomicU64)
-    requires end { end ≤ MOST_PIECES }
-    ensures pieces { All (IsPieceOf (S.told shelf.now) (S.left shelf.now) mode.now) hand.new.done.items }
-{
-    hand.done.clear();
-    if make_room(&mut hand.room).is_err() {
-        return;
-    }
-    'pieces: for _ in 0..ROUND {
-        let index = next.fetch_add(1, Ordering::SeqCst);
-        if index >= end {
-            return;
-        }
-        let Some(piece) = read_piece(shelf, mode, hand.room.as_mut_slice(), index) else {
-            next.store(MOST_PIECES, Ordering::SeqCst);
-            return;
-        };
-        if hand.done.push(piece).is_err() {
-            return;
-        }
-        if piece.len < PIECE_LEN {
-            next.store(MOST_PIECES, Ordering::SeqCst);
-            return;
-        }
-    }
-}
-
-// Room for a piece; what is there is not written again.
-fn make_room(room: &mut Vec<u8>) -> Result<(), AllocError>
-    ensures { OnOk result (PIECE_LEN ≤ vec_len room.new) }
-{
-    if room.len() < PIECE_LEN {
-        room.resize(PIECE_LEN, 0)?;
+    let len = readers * PIECE_LEN;
+    if room.len() < len {
+        room.resize(len, 0)?;
     }
     Ok(())
 }
 
-// Reads a piece and makes its node, or nothing where it cannot be read.
-fn read_piece<S: Shelf>(shelf: &S, mode: &Mode, room: &mut [u8], index: u64) -> Option<Piece>
-    requires index { index < MOST_PIECES }
-    ensures len { length room.new ≡ length room.old }
-    ensures piece { IfSome result (λ piece. IsPieceOf (S.told shelf.now) (S.left shelf.now) mode.now piece) }
+// The output of a file of so many bytes, region by region.
+fn hash_regions<R: Threads + Wait + Sync, G: Gate + Sync, S: Shelf + Send + Sync>(
+    crew: &Crew<'_, R, G>,
+    shelf: &S,
+    mode: &Mode,
+    len: u64,
+    room: &mut [u8],
+) -> Option<Xof>
+    requires most { len < MOST_LEN }
+    requires whole { IsSome (S.told shelf.now) → length (S.left shelf.now) ≡ len }
+    ensures { IfSome result (λ output. IsOutputOf (S.told shelf.now) (S.left shelf.now) mode.now output) }
 {
-    let room = room.get_mut(..PIECE_LEN)?;
-    let place = index * PIECE_LEN as u64;
-    let len = shelf.read_at(place, room)?;
-    let node = top(mode, place / CHUNK_LEN as u64, &room[..len]);
-    Some(Piece { index, len, node })
+    let mut hasher = Hasher::new(*mode);
+    'regions: while len - hasher.len() >= REGION_LEN {
+        let node = part_node(crew, shelf, mode, hasher.len(), REGION_LEN, room)?;
+        push(shelf, mode, &mut hasher, node);
+    }
+    finish(crew, shelf, mode, &hasher, len, room)
+}
+
+// The node of so many bytes from `place` on, which the workers read and hash.
+fn part_node<R: Threads + Wait + Sync, G: Gate + Sync, S: Shelf + Send + Sync>(
+    crew: &Crew<'_, R, G>,
+    shelf: &S,
+    mode: &Mode,
+    place: u64,
+    len: u64,
+    room: &mut [u8],
+) -> Option<Node>
+    requires most { place + len < MOST_LEN }
+    requires there { IsSome (S.told shelf.now) → place + len ≤ length (S.left shelf.now) }
+    ensures { IfSome result (λ node. IsPartOf (S.told shelf.now) (S.left shelf.now) mode.now place len node) }
+{
+    crew.source_node(&Rest { shelf }, place, len, mode, room)
+}
+
+// Pushes the next region.
+fn push<S: Shelf>(shelf: &S, mode: &Mode, hasher: &mut Hasher, node: Node)
+    requires hashed { HasHashed (S.told shelf.now) (S.left shelf.now) mode.now hasher.old }
+    requires part { IsPartOf (S.told shelf.now) (S.left shelf.now) mode.now (length_of hasher.old) REGION_LEN node }
+    requires few { length_of hasher.old < MOST_LEN }
+    ensures hashed { HasHashed (S.told shelf.now) (S.left shelf.now) mode.now hasher.new }
+    ensures len { length_of hasher.new ≡ length_of hasher.old + REGION_LEN }
+{
+    hasher.push_window(node, REGION_LEVEL).unwrap();
+}
+
+// The output, where less than a region is left.
+fn finish<R: Threads + Wait + Sync, G: Gate + Sync, S: Shelf + Send + Sync>(
+    crew: &Crew<'_, R, G>,
+    shelf: &S,
+    mode: &Mode,
+    hasher: &Hasher,
+    len: u64,
+    room: &mut [u8],
+) -> Option<Xof>
+    requires hashed { HasHashed (S.told shelf.now) (S.left shelf.now) mode.now hasher.now }
+    requires reached { length_of hasher.now ≤ len }
+    requires last { len < length_of hasher.now + REGION_LEN }
+    requires most { len < MOST_LEN }
+    requires whole { IsSome (S.told shelf.now) → length (S.left shelf.now) ≡ len }
+    ensures { IfSome result (λ output. IsOutputOf (S.told shelf.now) (S.left shelf.now) mode.now output) }
+{
+    let place = hasher.len();
+    if place == len {
+        return Some(hasher.finish());
+    }
+    let last = part_node(crew, shelf, mode, place, len - place, room)?;
+    Some(hasher.finish_with(last))
 }

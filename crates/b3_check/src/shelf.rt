@@ -1,5 +1,8 @@
-ghost use Rattle.std.specs.Prelude.{◌≡◌, ℕ, ◌+◌, ◌-◌, ◌^◌, ◌<◌, ◌≤◌, ◌&&◌, Bool, false, IsTrue, List, take, length, Option, IsSome, IsOk, OnOk, IfOk, IfErr, IfSome, drop, is_ok, is_err, if◌then◌else◌};
-ghost use Rattle.b3_check.specs.Contents.{Contents, Gives, HasContent, LacksContent};
+ghost use Rattle.std.specs.Prelude.{◌≡◌, ℕ, ◌+◌, ◌-◌, ◌^◌, ◌<◌, ◌≤◌, ◌&&◌, Bool, false, IsTrue, List, [], take, length, Option, IsSome, IsOk, OnOk, IfOk, IfErr, IfSome, drop, is_ok, is_err, if◌then◌else◌};
+ghost use Rattle.b3_check.specs.Contents.{Contents, Gives, HasContent, IsSeen, LacksContent};
+ghost use Rattle.b3_hash.specs.Hashers.{StandsFor, mode_of};
+
+use b3_hash::Hasher;
 
 /// Why a name gives no content.
 #[derive(Clone, Copy, Debug, PartialEq, Eq)]
@@ -60,14 +63,17 @@ pub trait Shelf {
         ensures told { told self.new ≡ told self.old }
         ensures still_sure { is_sure self.new ≡ is_sure self.old };
 
-    /// Copies the whole content of a name to the front of `room`, and answers how many bytes it has. Else it
-    /// answers how much room might do, or 0: there is no plain file of this name, or none that is soon read. It
-    /// changes nothing, so that many threads may ask at once.
-    fn peek(&self, _name: &str, _room: &mut [u8]) -> Result<usize, usize>
-        ensures within { IfOk result (λ n. n ≤ length _room.old) }
-        ensures content { IfOk result (λ n. HasContent (told self.now) _name.now (take n _room.new)) }
+    /// Has the whole content of a name hashed by `_hasher`, through `_room`, and answers whether it has: there is a
+    /// plain file of this name, of at most `_longest` bytes, which is soon read. It changes nothing, so that many
+    /// threads may ask at once.
+    fn peek(&self, _name: &str, _longest: u64, _room: &mut [u8], _hasher: &mut Hasher) -> bool
+        requires room { 0 < length _room.old }
+        requires fresh { StandsFor _hasher.old [] }
+        ensures len { length _room.new ≡ length _room.old }
+        ensures mode { mode_of _hasher.new ≡ mode_of _hasher.old }
+        ensures content { IsTrue result → IsSeen (told self.now) _name.now _hasher.new }
     {
-        Err(0)
+        false
     }
 
     /// Fills the room with what is left of the file, from `place` on, as far as there is any, and answers how

@@ -21,4 +21,9 @@ pub trait Sink {
         ensures some { 0 < length bytes.now → IfOk result (λ n. 0 < n) }
         ensures written { IfOk result (λ n. Appends (held self.old) (held self.new) (take n bytes.now)) }
         ensures err { OnErr result (Keeps (held self.old) (held self.new)) };
+
+    /// Whether lines may wait for those that come soon after them, to go in one write.
+    fn may_wait(&self) -> bool {
+        false
+    }
 }

@@ -1,8 +1,9 @@
 //! The loop that both engines go through.
 
 ghost use Rattle.std.specs.Prelude.{◌≡◌, ℕ, ◌+◌, ◌-◌, ◌^◌, ◌<◌, ◌≤◌, ◌∷◌, [], All, true, length, IfOk, IfSome, MatchOption, OnOk};
-ghost use Rattle.b3_check.specs.Ahead.{AreKnown, IsKnown, IsNodeOf, tasks_then};
+ghost use Rattle.b3_check.specs.Ahead.{AreKnown, IsKnown, HasOutput, tasks_then};
 ghost use Rattle.b3_check.specs.Desks.{loans, scene_of};
+ghost use Rattle.b3_check.specs.Owing.{RunsOwing};
 ghost use Rattle.b3_check.specs.Runs.{HasRoom, Runs};
 ghost use Rattle.b3_check.specs.Tallies.{counted};
 ghost use Rattle.b3_check.specs.Tasks.{IsFit, IsFitItem, Gives, name_asked, subject_report, task_of, task_script, tasks_script};
@@ -19,10 +20,13 @@ use crate::shelf::Shelf;
 use crate::sink::Sink;
 use crate::tally::Tally;
 use b3_board::Gate;
-use b3_core::Node;
+use b3_hash::Xof;
 use std::alloc::{AllocError, Global};
 use std::sync::Wait;
 use std::thread::Threads;
+
+/// Lines are written once they have so many bytes, where they have waited for others.
+const MOST_LINES: usize = 1 << 16;
 
 /// Does what an agenda says. It reads, hashes, writes and counts, item after item.
 #[derive(Drop)]
@@ -81,29 +85,32 @@ impl<'c, R: Threads + Wait + Sync, G: Gate + Sync> Worker<'c, R, G> {
         ensures output { self.new.digester.output ≡ self.old.digester.output }
     {
         let mut tally = Tally::none();
+        let mut lines = Vec::new(self.alloc);
         let mut ahead = Ahead::new(self.alloc);
-        while let Some((item, node)) = self.next(desk, &mut ahead, agenda)? {
-            let one = self.run_item(desk, item, node)?;
+        while let Some((item, output)) = self.next(desk, &mut ahead, agenda)? {
+            let is_more_soon = ahead.knows_next() && lines.len() < MOST_LINES;
+            let one = self.run_item(desk, item, output, &mut lines, is_more_soon)?;
             tally.add(&one);
         }
+        desk.write_lines(lines.as_slice())?;
         Ok(tally)
     }
 
-    // The next item, with its node if that was found.
+    // The next item, with its output if that was found.
     fn next<'p, S: Shelf + Send + Sync, O: Sink, E: Sink, P: Agenda<'p>>(
         &mut self,
         desk: &Desk<'_, '_, '_, S, O, E>,
         ahead: &mut Ahead<'p>,
         agenda: &mut P,
-    ) -> Result<Option<(Item<'p>, Option<Node>)>, AllocError>
+    ) -> Result<Option<(Item<'p>, Option<Xof>)>, AllocError>
         requires known { AreKnown (S.told desk.now.shelf.now)
-            self.old.digester.output.mode ahead.old.items.items ahead.old.nodes.items }
+            self.old.digester.output.mode ahead.old.items.items ahead.old.outputs.items }
         ensures next { IfOk result (λ next. MatchOption next (tasks_then ahead.old.items.items (P.left agenda.old) ≡ [])
             (λ done. tasks_then ahead.old.items.items (P.left agenda.old)
             ≡ task_of done.0 ∷ tasks_then ahead.new.items.items (P.left agenda.new))) }
         ensures known { OnOk result (AreKnown (S.told desk.now.shelf.now)
-            self.old.digester.output.mode ahead.new.items.items ahead.new.nodes.items) }
-        ensures node { IfOk result (λ next. IfSome next (λ done. IsKnown (S.told desk.now.shelf.now)
+            self.old.digester.output.mode ahead.new.items.items ahead.new.outputs.items) }
+        ensures output_of { IfOk result (λ next. IfSome next (λ done. IsKnown (S.told desk.now.shelf.now)
             self.old.digester.output.mode (task_of done.0) done.1)) }
         ensures fit { IfOk result (λ next. IfSome next (λ done. (len : ℕ)
             → All (IsFitItem len) ahead.old.items.items → P.fits agenda.old len ≡ true → IsFitItem len done.0)) }
@@ -123,18 +130,21 @@ impl<'c, R: Threads + Wait + Sync, G: Gate + Sync> Worker<'c, R, G> {
         )
     }
 
-    // Does one item.
+    // Does one item, after lines that are still to be written.
     fn run_item<S: Shelf + Send + Sync, O: Sink, E: Sink>(
         &mut self,
         desk: &mut Desk<'_, '_, '_, S, O, E>,
         item: Item<'_>,
-        node: Option<Node>,
+        known: Option<Xof>,
+        lines: &mut Vec<u8>,
+        is_more_soon: bool,
     ) -> Result<Tally, RunFault>
         requires fit { IsFitItem self.old.digester.output.length item }
-        requires known { IsKnown (S.told desk.old.shelf.now) self.old.digester.output.mode (task_of item) node }
+        requires known { IsKnown (S.told desk.old.shelf.now) self.old.digester.output.mode (task_of item) known }
         requires room { HasRoom (scene_of S.Shelf O.Sink E.Sink desk.old) 1 }
-        ensures run { Runs self.old.limits (task_script self.old.digester.output (task_of item.entry))
-            (scene_of S.Shelf O.Sink E.Sink desk.old) (scene_of S.Shelf O.Sink E.Sink desk.new) result }
+        ensures run { RunsOwing self.old.limits (task_script self.old.digester.output (task_of item.entry))
+            (scene_of S.Shelf O.Sink E.Sink desk.old) (scene_of S.Shelf O.Sink E.Sink desk.new)
+            lines.old.items lines.new.items result }
         ensures one { IfOk result (λ tally. counted tally ≡ 1) }
         ensures shelf_count { S.failures desk.new.shelf.now ≤ S.failures desk.old.shelf.now + 1 }
         ensures loans { loans desk.new ≡ loans desk.old }
@@ -143,12 +153,12 @@ impl<'c, R: Threads + Wait + Sync, G: Gate + Sync> Worker<'c, R, G> {
     {
         match item {
             Item::Say(said) => {
-                desk.say(&said)?;
+                desk.say_after(lines, &said, is_more_soon)?;
                 Ok(said.tally)
             }
             Item::Ask(subject) => {
-                let said = self.find(desk, &subject, node)?;
-                desk.say(&said)?;
+                let said = self.find(desk, &subject, known)?;
+                desk.say_after(lines, &said, is_more_soon)?;
                 Ok(said.tally)
             }
         }
@@ -159,15 +169,16 @@ impl<'c, R: Threads + Wait + Sync, G: Gate + Sync> Worker<'c, R, G> {
         &mut self,
         desk: &mut Desk<'_, '_, '_, S, O, E>,
         subject: &Subject<'_>,
-        node: Option<Node>,
+        known: Option<Xof>,
     ) -> Result<Said, RunFault>
         requires fit { IsFit self.old.digester.output.length subject.now }
-        requires known { IfSome node (IsNodeOf (S.told desk.old.shelf.now)
+        requires known { IfSome known (HasOutput (S.told desk.old.shelf.now)
             self.old.digester.output.mode (name_asked subject.now)) }
         requires room { HasRoom (scene_of S.Shelf O.Sink E.Sink desk.old) 1 }
         ensures gives { Gives self.old.limits self.old.digester.output (name_asked subject.now)
             (subject_report subject.now)
             (scene_of S.Shelf O.Sink E.Sink desk.old) (scene_of S.Shelf O.Sink E.Sink desk.new) result }
+        ensures unsaid { desk.new.out.now ≡ desk.old.out.now }
         ensures loans { loans desk.new ≡ loans desk.old }
         ensures limits { self.new.limits ≡ self.old.limits }
         ensures output { self.new.digester.output ≡ self.old.digester.output }
@@ -176,7 +187,7 @@ impl<'c, R: Threads + Wait + Sync, G: Gate + Sync> Worker<'c, R, G> {
             &self.crew,
             &mut self.digester,
             subject.name(),
-            node,
+            known,
             self.limits,
         )?;
         let digest = match whole {

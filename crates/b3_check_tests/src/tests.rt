@@ -8,6 +8,7 @@ mod checks;
 mod devices;
 mod faults;
 mod faulty_files;
+mod gathered;
 mod in_order;
 mod lettered_files;
 mod memory;

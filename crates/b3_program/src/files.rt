@@ -1,11 +1,14 @@
 ghost use Rattle.std.specs.Prelude.{◌≡◌, ◌≢◌, ◌↔◌, ◌+◌, ◌-◌, ◌^◌, ◌<◌, ◌≤◌, ◌&&◌, [], true, false, None, Err, IsTrue, IsOk, OnOk, OnErr, IfOk, codes, length, take, is_err, is_ok, if◌then◌else◌};
 ghost use Rattle.std.specs.Io.KnownBytes.{Consumes, IsAtEnd};
 ghost use Rattle.std.specs.IoError.{error_kind};
+ghost use Rattle.b3_check.specs.Contents.{IsSeen};
 ghost use Rattle.b3_check.specs.declared.shelf.NoContent.TheVariants.{Missing};
+ghost use Rattle.b3_hash.specs.Hashers.{StandsFor, mode_of};
 ghost use Rattle.b3_program.specs.Files.{IsOfMissing, is_open};
 
 use crate::retrying::{fill_at, read_retrying};
 use b3_check::{CannotRead, NoContent, Shelf};
+use b3_hash::Hasher;
 use std::fs::{File, OpenFile};
 use std::io::{self, ErrorKind, Read};
 use std::os::unix::fs::FileExt;
@@ -74,6 +77,30 @@ fn why_not(error: &io::Error) -> NoContent
         ErrorKind::NotFound | ErrorKind::NotADirectory => NoContent::Missing,
         _ => NoContent::CannotRead,
     }
+}
+
+// Has a file of at most so many bytes hashed, piece by piece, and answers whether it has.
+fn hash_file<F: FileExt>(file: &F, longest: u64, room: &mut [u8], hasher: &mut Hasher) -> bool
+    requires room { 0 < length room.old }
+    requires fresh { StandsFor hasher.old [] }
+    ensures len { length room.new ≡ length room.old }
+    ensures mode { mode_of hasher.new ≡ mode_of hasher.old }
+    ensures content { IsTrue result → IsSeen None [] hasher.new }
+{
+    let mut place = 0u64;
+    for _ in 0..=longest / room.len() as u64 {
+        let Some(count) = fill_at(file, place, room) else {
+            return false;
+        };
+        let Ok(()) = hasher.update(&room[..count]) else {
+            return false;
+        };
+        if count < room.len() {
+            return true;
+        }
+        place = place.saturating_add(count as u64);
+    }
+    false
 }
 
 impl<F: Files, I: Read> Shelf for FileShelf<'_, F, I>
@@ -159,26 +186,17 @@ where
     }
 
     // Of a plain file that tells its length, and of no other: those of `/proc` tell 0.
-    fn peek(&self, name: &str, room: &mut [u8]) -> Result<usize, usize> {
+    fn peek(&self, name: &str, longest: u64, room: &mut [u8], hasher: &mut Hasher) -> bool {
         if name == INPUT_NAME {
-            return Err(0);
+            return false;
         }
-        let needed = match self.files.metadata(name) {
-            Ok(metadata) if metadata.is_file() && metadata.len() > 0 => {
-                (metadata.len() as usize).saturating_add(1)
-            }
-            _ => return Err(0),
-        };
-        if needed > room.len() {
-            return Err(needed);
+        match self.files.metadata(name) {
+            Ok(metadata) if metadata.is_file() && (1..=longest).contains(&metadata.len()) => {}
+            _ => return false,
         }
-        let Ok(file) = File::open(self.files, name) else {
-            return Err(0);
-        };
-        // Where the room is full, the file may go on after it.
-        match fill_at(&file, 0, room) {
-            Some(len) if len < room.len() => Ok(len),
-            _ => Err(0),
+        match File::open(self.files, name) {
+            Ok(file) => hash_file(&file, longest, room, hasher),
+            Err(_) => false,
         }
     }
 

@@ -8,18 +8,31 @@ use std::io::Write;
 #[derive(Drop)]
 pub struct OutputSink<W> {
     writer: W,
+    is_gathering: bool,
     failures: u64,
 }
 
 impl<W: Write> OutputSink<W> {
-    /// A sink over a writer, which no write has failed.
+    /// A sink over a writer, which no write has failed. A line is written as soon as it is due.
     pub fn new(writer: W) -> OutputSink<W>
         ensures writer { result.writer ≡ writer }
         ensures failures { result.failures ≡ 0 }
     {
         OutputSink {
             writer,
+            is_gathering: false,
             failures: 0,
+        }
+    }
+
+    /// The same sink; lines that come soon after one another go in one write, or do not.
+    pub fn gathering(self, is_gathering: bool) -> OutputSink<W>
+        ensures writer { result.writer ≡ self.writer }
+        ensures failures { result.failures ≡ self.failures }
+    {
+        OutputSink {
+            is_gathering,
+            ..self
         }
     }
 }
@@ -40,5 +53,9 @@ impl<W: Write> Sink for OutputSink<W> {
                 Err(SinkFailed)
             }
         }
+    }
+
+    fn may_wait(&self) -> bool {
+        self.is_gathering
     }
 }

@@ -1,12 +1,15 @@
 // The shelf of real files and the sinks over writers.
 
 use b3_check::{CannotRead, NoContent, Shelf, Sink, SinkFailed};
+use b3_core::Mode;
+use b3_hash::Hasher;
 use b3_program::{FileShelf, OutputSink};
 use std::alloc::{AllocError, Allocator};
-use std::fs::{Metadata, OpenFile, OpenOptions};
+use std::fs::{File, Metadata, OpenFile, OpenOptions};
 use std::io::{self, ErrorKind, Read, Seek, SeekFrom, Write};
 use std::os::unix::fs::FileExt;
 use std::rt::Files;
+use std::test::Fail;
 
 // Is interrupted before each call that it lets through.
 #[derive(Drop)]
@@ -196,6 +199,25 @@ impl Files for OnePath<'_> {
     }
 }
 
+// The digest of the file of this name, if it is hashed beside others.
+fn peeked<F: Files>(shelf: &FileShelf<'_, F, &[u8]>, name: &str, longest: u64) -> Option<[u8; 32]>
+where
+    F::File: FileExt,
+{
+    let mut room = [0; 1_000];
+    let mut hasher = Hasher::new(Mode::hash());
+    if !shelf.peek(name, longest, &mut room, &mut hasher) {
+        return None;
+    }
+    Some(digest_of(&hasher))
+}
+
+fn digest_of(hasher: &Hasher) -> [u8; 32] {
+    let mut digest = [0; 32];
+    let _filled = hasher.finish().fill(&mut digest);
+    digest
+}
+
 // The file that is opened, or looked at, is the one that is named, to the character.
 #[test]
 fn the_named_file_is_opened(rt: HostRuntime) -> Result<(), AllocError> {
@@ -227,8 +249,8 @@ fn the_named_file_is_opened(rt: HostRuntime) -> Result<(), AllocError> {
         let mut shelf = FileShelf::new(&files, b"".as_slice());
         assert_eq!(&rt; shelf.begin(path), Ok(()), "{path}");
         assert_eq!(&rt; shelf.begin("another"), Err(NoContent::Missing), "{path}");
-        assert_eq!(&rt; shelf.peek(path, &mut [0; 8]), Ok(0), "{path}");
-        assert_eq!(&rt; shelf.peek("another", &mut [0; 8]), Err(0), "{path}");
+        assert!(&rt; peeked(&shelf, path, u64::MAX).is_some(), "{path}");
+        assert!(&rt; peeked(&shelf, "another", u64::MAX).is_none(), "{path}");
     }
     Ok(())
 }
@@ -258,16 +280,40 @@ fn a_name_behind_a_file_is_missing(rt: HostRuntime) -> Result<(), AllocError> {
 #[test]
 fn a_plain_file_alone_is_looked_at(rt: HostRuntime) {
     let shelf = FileShelf::new(&rt, b"four".as_slice());
-    let mut room = [0; 8];
-    assert_eq!(rt; shelf.peek("-", &mut room), Err(0));
-    assert_eq!(rt; shelf.peek("/", &mut room), Err(0));
-    assert_eq!(rt; shelf.peek("/dev/null", &mut room), Err(0));
-    assert_eq!(rt; shelf.peek("a file that is not there", &mut room), Err(0));
-    assert!(rt;
-        shelf
-            .peek("/proc/self/exe", &mut room)
-            .is_err_and(|needed| needed > 8)
+    for name in [
+        "-",
+        "/",
+        "/dev/null",
+        "/proc/self/stat",
+        "a file that is not there",
+    ] {
+        assert_eq!(rt; peeked(&shelf, name, u64::MAX), None, "{name}");
+    }
+    assert_eq!(rt; peeked(&shelf, "/proc/self/exe", 1_024), None);
+}
+
+// A file that is read at its places is the file that is read in order.
+#[test]
+fn a_file_is_looked_at_piece_by_piece(rt: HostRuntime) -> Result<(), Fail> {
+    let mut file = File::open(&rt, "/proc/self/exe")?;
+    let mut hasher = Hasher::new(Mode::hash());
+    let mut room = [0; 4_096];
+    for _ in 0..1_000_000u64 {
+        let count = file.read(&mut room)?;
+        hasher.update(&room[..count.min(4_096)])?;
+        if count == 0 {
+            break;
+        }
+    }
+    let len = hasher.len();
+    let shelf = FileShelf::new(&rt, b"".as_slice());
+    assert!(rt; len > 100_000);
+    assert_eq!(rt;
+        peeked(&shelf, "/proc/self/exe", len),
+        Some(digest_of(&hasher))
     );
+    assert_eq!(rt; peeked(&shelf, "/proc/self/exe", len - 1), None);
+    Ok(())
 }
 
 #[test]

@@ -13,13 +13,15 @@ mod words;
 use b3_board::OpenGate;
 use b3_program::{FileShelf, OutputSink};
 use call::run_call;
+use std::io::IsTerminal;
 use std::process::ExitCode;
 use std::rt::Env;
 use std::{env, io};
 
 fn main(rt: HostRuntime) -> ExitCode {
     let mut shelf = FileShelf::new(&rt, rt.stdin());
-    let mut out = OutputSink::new(rt.stdout());
+    // Over a terminal each line is seen as soon as it is due.
+    let mut out = OutputSink::new(rt.stdout()).gathering(!rt.stdout().is_terminal());
     let mut err = OutputSink::new(rt.stderr());
     let arguments = arguments(&rt);
     ExitCode::from(run_call(

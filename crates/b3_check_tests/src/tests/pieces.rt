@@ -86,6 +86,8 @@ fn files_around_three_pieces(rt: HostRuntime) -> Result<(), Fail> {
 struct RefusingShelf<'a> {
     content: &'a [u8],
     rest: &'a [u8],
+    // how long the file says that it is
+    hint: u64,
     // how many calls come before the one that gives nothing
     calls_before: u64,
     calls: AtomicU64,
@@ -125,7 +127,7 @@ impl Shelf for RefusingShelf<'_> {
     }
 
     fn len_hint(&self) -> u64 {
-        self.content.len() as u64
+        self.hint
     }
 }
 
@@ -139,7 +141,36 @@ fn a_piece_that_is_not_given(rt: HostRuntime) -> Result<(), Fail> {
             let mut shelf = RefusingShelf {
                 content: content.as_slice(),
                 rest: &[],
+                hint: content.len() as u64,
                 calls_before,
+                calls: AtomicU64::new(0),
+            };
+            assert_sum(&rt, alloc, &mut shelf, workers, content.as_slice())?;
+        }
+    }
+    Ok(())
+}
+
+// What a file says of its length is not believed.
+#[test]
+fn a_length_that_is_not_so(rt: HostRuntime) -> Result<(), Fail> {
+    let alloc = rt.alloc();
+    let piece = PIECE_LEN as u64;
+    let content = pattern(alloc, 4 * piece)?;
+    for hint in [
+        0,
+        2 * piece,
+        4 * piece - 1,
+        4 * piece + 1,
+        5 * piece,
+        u64::MAX,
+    ] {
+        for workers in [1, 4] {
+            let mut shelf = RefusingShelf {
+                content: content.as_slice(),
+                rest: &[],
+                hint,
+                calls_before: u64::MAX,
                 calls: AtomicU64::new(0),
             };
             assert_sum(&rt, alloc, &mut shelf, workers, content.as_slice())?;

@@ -8,5 +8,5 @@ use Rattle.b3_check.proofs.ahead.note.Given as goal
 abbrev pub invariant-loop-one : goal.invariant-loop-one
 invariant-loop-one l = record {
   known : (told : Option Contents) (mode : Mode) (items : List Item) → All (IsFound told mode items) l.found
-      → AreKnown told mode items l.fn.nodes.items → AreKnown told mode items l.nodes.items;
+      → AreKnown told mode items l.fn.outputs.items → AreKnown told mode items l.outputs.items;
 }

@@ -1,12 +1,8 @@
-use Rattle.std.proofs.Common.{◌∙◌, sym}
-use Rattle.b3_check.proofs.PieceLemmas.{on_ok, pushed}
+use Rattle.b3_check.proofs.PieceLemmas.{pushed}
 use Rattle.b3_check.proofs.pieces.push.Goals as goal
 
-pub returns : goal.returns
-returns g c = λ is.
-    let done = sym c.is_ok.ensures.value ∙ is in
-    let answer = c.push_window.result in
-    pushed c.requires.hashed c.requires.piece c.requires.next c.requires.full
-    (on_ok answer done c.push_window.ensures.ok)
-    (on_ok answer done c.push_window.ensures.len)
-    c.push_window.ensures.mode
+pub returns-clause-hashed : goal.returns-clause-hashed
+returns-clause-hashed g c =
+    let ok = rw c.unwrap.ensures at c.push_window.ensures.ok in
+    let len = rw c.unwrap.ensures at c.push_window.ensures.len in
+    pushed c.requires.hashed c.requires.part ok len c.push_window.ensures.mode

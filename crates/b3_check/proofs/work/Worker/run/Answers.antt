@@ -4,13 +4,13 @@ use Rattle.b3_check.specs.Ahead.{AreKnown}
 use Rattle.b3_check.specs.Contents.{Contents}
 use Rattle.b3_check.specs.Tasks.{IsFitItem, task_of}
 use Rattle.b3_check.proofs.AheadLemmas.{all_none, are_known_none}
-use Rattle.b3_check.proofs.TaskLemmas.{so_far_more, so_far_none, so_far_refused, so_far_stopped}
+use Rattle.b3_check.proofs.TaskLemmas.{so_far_all, so_far_more, so_far_none, so_far_refused, so_far_stopped, so_far_unwritten}
 use Rattle.b3_check.proofs.work.Worker.run.Goals as goal
 
 pub loop-ahead-init : goal.loop-ahead-init
 loop-ahead-init g c = record {
-  so_far = rw c.new-ahead.ensures.items (so_far_none c.none-tally.ensures);
-  known = rw c.new-ahead.ensures.nodes (are_known_none _ _ _);
+  so_far = rw (c.new-ahead.ensures.items, c.new-lines.ensures.items) (so_far_none c.none-tally.ensures);
+  known = rw c.new-ahead.ensures.outputs (are_known_none _ _ _);
   fit = rw c.new-ahead.ensures.items (all_none (IsFitItem c.args.self.now.digester.output.length));
   fits = λ _. refl;
   loans = refl;
@@ -52,10 +52,24 @@ loop-ahead-preserved g c =
     record {
       so_far = rw c.add.ensures (so_far_more (task_of c.in-Some.item) so_far ran done.one done.shelf_count);
       known = subst (λ (t : Option Contents). AreKnown t c.args.self.now.digester.output.mode
-          c.next.new.ahead.items.items c.next.new.ahead.nodes.items) (sym done.run.went.heard.told) known;
+          c.next.new.ahead.items.items c.next.new.ahead.outputs.items) (sym done.run.went.went.heard.told) known;
       fit = item.all_fit len held.fit (held.fits len ∙ c.requires.fits);
       fits = λ n. item.still_fits n ∙ held.fits n;
       loans = done.loans ∙ held.loans;
       limits = done.limits ∙ item.limits ∙ held.limits;
       output = done.output ∙ item.output ∙ held.output;
     }
+
+pub returns-in_err-write_lines-clause-run : goal.returns-in_err-write_lines-clause-run
+returns-in_err-write_lines-clause-run g c =
+    let p = err_from_is_err_and c.from_residual-in_err-write_lines.result
+    c.from_residual-in_err-write_lines.ensures.1 in
+    let none = rw c.in_default.is at c.in_ok-item.ensures.next in
+    let said = rw c.as_slice.ensures.value at c.in_err-write_lines.ensures.said in
+    rw (p.1, p.2) (so_far_unwritten c.loop-ahead.invariant.so_far none said.0 said.1)
+
+pub returns-clause-run : goal.returns-clause-run
+returns-clause-run g c =
+    let none = rw c.in_default.is at c.in_ok-item.ensures.next in
+    let said = rw c.as_slice.ensures.value at c.in_ok-write_lines.ensures.said in
+    (so_far_all none c.loop-ahead.invariant.so_far said).0

@@ -12,8 +12,9 @@ invariant-loop-ahead g l =
     let agenda = g.P.Agenda in
     let left = tasks_then l.ahead.items.items (agenda.left l.agenda) in
     record {
-      so_far : SoFar l.fn.self.digester.output (agenda.left l.fn.agenda) left (seen l.fn.desk) (seen l.desk) l.tally;
-      known : AreKnown (seen l.desk).told l.fn.self.digester.output.mode l.ahead.items.items l.ahead.nodes.items;
+      so_far : SoFar l.fn.self.digester.output (agenda.left l.fn.agenda) left (seen l.fn.desk) (seen l.desk)
+          l.lines.items l.tally;
+      known : AreKnown (seen l.desk).told l.fn.self.digester.output.mode l.ahead.items.items l.ahead.outputs.items;
       fit : All (IsFitItem l.fn.self.digester.output.length) l.ahead.items.items;
       fits : (len : ℕ) → agenda.fits l.agenda len ≡ agenda.fits l.fn.agenda len;
       loans : loans l.desk ≡ loans l.fn.desk;

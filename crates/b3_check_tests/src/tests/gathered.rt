@@ -1,0 +1,248 @@
+// Lines that wait for those that come soon after them, and when they are written.
+
+ghost use Rattle.std.specs.Prelude.{◌≡◌, ◌^◌, ◌<◌, ◌≤◌, [], None, Some, false, true, length};
+
+use crate::tests::{EMPTY, check_options, joined, options, tally};
+use b3_board::OpenGate;
+use b3_check::{
+    CannotRead, NoContent, RunFault, Shelf, Sink, SinkFailed, Tally, run_check, run_sum,
+};
+use b3_hash::Hasher;
+use std::alloc::Global;
+use std::process::Abort;
+use std::sync::Wait;
+use std::sync::atomic::{AtomicU64, Ordering};
+use std::test::Fail;
+use std::thread::Threads;
+
+/// Empty files, of which all but `slow` are soon read, and a list under `l`. What is begun notes how many bytes were
+/// written before it.
+#[derive(Drop)]
+struct EmptyFiles<'a> {
+    list: &'a [u8],
+    rest: &'a [u8],
+    written: &'a AtomicU64,
+    before_slow: u64,
+}
+
+impl<'a> EmptyFiles<'a> {
+    fn new(list: &'a [u8], written: &'a AtomicU64) -> EmptyFiles<'a> {
+        EmptyFiles {
+            list,
+            rest: &[],
+            written,
+            before_slow: 0,
+        }
+    }
+}
+
+impl Shelf for EmptyFiles<'_> {
+    ghost failures = { λ _. 0 };
+
+    ghost told = { λ _. None };
+
+    ghost is_sure = { λ _. false };
+
+    ghost is_begun = { λ _. true };
+
+    ghost left = { λ _. [] };
+
+    fn begin(&mut self, name: &str) -> Result<(), NoContent> {
+        self.rest = if name == "l" { self.list } else { &[] };
+        if name == "slow" {
+            self.before_slow = self.written.load(Ordering::SeqCst);
+        }
+        Ok(())
+    }
+
+    fn read(&mut self, room: &mut [u8]) -> Result<usize, CannotRead> {
+        let count = self.rest.len().min(room.len());
+        room[..count].copy_from_slice(&self.rest[..count]);
+        self.rest = &self.rest[count..];
+        Ok(count)
+    }
+
+    fn peek(&self, name: &str, _longest: u64, _room: &mut [u8], _hasher: &mut Hasher) -> bool {
+        name != "slow"
+    }
+}
+
+/// A sink whose lines may wait, or may not. After so many writes one fails. It notes how many bytes the other sink has.
+#[derive(Drop)]
+struct PatientSink<'a> {
+    bytes: Vec<u8>,
+    may_wait: bool,
+    written: &'a AtomicU64,
+    writes: u64,
+    writes_before: u64,
+    failures: u64,
+}
+
+impl<'a> PatientSink<'a> {
+    fn new(alloc: Global, may_wait: bool, written: &'a AtomicU64) -> PatientSink<'a>
+        ensures { result.failures ≡ 0 }
+    {
+        PatientSink {
+            bytes: Vec::new(alloc),
+            may_wait,
+            written,
+            writes: 0,
+            writes_before: u64::MAX,
+            failures: 0,
+        }
+    }
+}
+
+impl Sink for PatientSink<'_> {
+    ghost failures = { λ sink. sink.failures };
+
+    ghost held = { λ sink. Some sink.bytes.items };
+
+    fn write(&mut self, bytes: &[u8]) -> Result<usize, SinkFailed> {
+        let is_fault = self.writes == self.writes_before;
+        self.writes = self.writes.saturating_add(1);
+        if is_fault || self.bytes.extend_from_slice(bytes).is_err() {
+            self.failures += 1;
+            return Err(SinkFailed);
+        }
+        self.written.fetch_add(bytes.len() as u64, Ordering::SeqCst);
+        Ok(bytes.len())
+    }
+
+    fn may_wait(&self) -> bool {
+        self.may_wait
+    }
+}
+
+// So many times this text.
+fn repeated(alloc: Global, count: u64, text: &str) -> Result<String, Fail> {
+    let mut texts = String::new(alloc);
+    for _ in 0..count {
+        texts.push_str(text)?;
+    }
+    Ok(texts)
+}
+
+// So many names `a`.
+fn names(alloc: Global, count: u64) -> Result<Vec<String>, Fail> {
+    let mut names = Vec::new(alloc);
+    for _ in 0..count {
+        names.push(String::from_str(alloc, "a")?)?;
+    }
+    Ok(names)
+}
+
+// The run over names, by two workers.
+fn summed<R: Threads + Wait + Sync>(
+    rt: &R,
+    alloc: Global,
+    names: &[String],
+    shelf: &mut EmptyFiles<'_>,
+    out: &mut PatientSink<'_>,
+    err: &mut PatientSink<'_>,
+) -> Result<Tally, RunFault>
+    requires names { length names.now ≤ 2 ^ 30 }
+    requires out { out.old.failures < 2 ^ 63 }
+    requires err { err.old.failures < 2 ^ 63 }
+{
+    let mut asked = options(2, 0);
+    asked.workers = 2;
+    run_sum(rt, alloc, shelf, names, out, err, &asked, &OpenGate)
+}
+
+// The lines of 1,000 names go in as many writes as there are rounds, of 64, 128, 256, 512 names and the rest; or each
+// in a write of its own.
+fn assert_writes<R: Abort + Threads + Wait + Sync>(
+    rt: &R,
+    alloc: Global,
+    may_wait: bool,
+    writes: u64,
+) -> Result<(), Fail> {
+    let line = joined(alloc, &[EMPTY, "  a\n"])?;
+    let lines = repeated(alloc, 1_000, line.as_str())?;
+    let written = AtomicU64::new(0);
+    let mut shelf = EmptyFiles::new(lines.as_bytes(), &written);
+    let mut out = PatientSink::new(alloc, may_wait, &written);
+    let mut err = PatientSink::new(alloc, may_wait, &written);
+    let names = names(alloc, 1_000)?;
+    assert!(rt; names.len() <= 1_000);
+    let answer = summed(rt, alloc, &names, &mut shelf, &mut out, &mut err);
+    assert_eq!(rt; answer, Ok(tally(1_000, 0, 0)));
+    assert_eq!(rt; out.bytes.as_slice(), lines.as_bytes());
+    assert_eq!(rt; out.writes, writes);
+
+    let lists = [String::from_str(alloc, "l")?];
+    let mut out = PatientSink::new(alloc, may_wait, &written);
+    let mut err = PatientSink::new(alloc, may_wait, &written);
+    let mut asked = check_options(false, 100_000);
+    asked.workers = 2;
+    let answer = run_check(
+        rt, alloc, &mut shelf, &lists, &mut out, &mut err, &asked, &OpenGate,
+    );
+    let verdicts = repeated(alloc, 1_000, "a: OK\n")?;
+    assert_eq!(rt; answer, Ok(tally(1_000, 0, 0)));
+    assert_eq!(rt; out.bytes.as_slice(), verdicts.as_bytes());
+    assert_eq!(rt; out.writes, writes);
+    assert_eq!(rt; err.writes, 0);
+    Ok(())
+}
+
+#[test]
+fn the_lines_of_a_round_go_in_one_write(rt: HostRuntime) -> Result<(), Fail> {
+    assert_writes(&rt, rt.alloc(), true, 5)
+}
+
+#[test]
+fn a_line_that_may_not_wait_is_written_alone(rt: HostRuntime) -> Result<(), Fail> {
+    assert_writes(&rt, rt.alloc(), false, 1_000)
+}
+
+// Lines do not wait for a name that is begun in its turn; its own waits for those after it.
+#[test]
+fn lines_before_a_slow_name_are_written(rt: HostRuntime) -> Result<(), Fail> {
+    let alloc = rt.alloc();
+    let line = joined(alloc, &[EMPTY, "  a\n"])?;
+    let slow = joined(alloc, &[EMPTY, "  slow\n"])?;
+    let three = repeated(alloc, 3, line.as_str())?;
+    let written = AtomicU64::new(0);
+    let mut shelf = EmptyFiles::new(b"", &written);
+    let mut out = PatientSink::new(alloc, true, &written);
+    let mut err = PatientSink::new(alloc, true, &written);
+    let mut names = Vec::new(alloc);
+    for name in ["a", "a", "a", "slow", "a", "a", "a"] {
+        names.push(String::from_str(alloc, name)?)?;
+    }
+    assert!(&rt; names.len() <= 7);
+    let answer = summed(&rt, alloc, &names, &mut shelf, &mut out, &mut err);
+    let all = joined(alloc, &[three.as_str(), slow.as_str(), three.as_str()])?;
+    assert_eq!(rt; answer, Ok(tally(7, 0, 0)));
+    assert_eq!(rt; out.bytes.as_slice(), all.as_bytes());
+    assert_eq!(rt; shelf.before_slow, three.len() as u64);
+    assert_eq!(rt; out.writes, 2);
+    Ok(())
+}
+
+// Whichever write fails, the lines of the rounds before are written.
+#[test]
+fn any_write_of_lines_fails(rt: HostRuntime) -> Result<(), Fail> {
+    let alloc = rt.alloc();
+    let line = joined(alloc, &[EMPTY, "  a\n"])?;
+    let names = names(alloc, 300)?;
+    assert!(&rt; names.len() <= 300);
+    for (writes_before, count) in [(0, 0), (1, 64), (2, 192), (3, 300)] {
+        let written = AtomicU64::new(0);
+        let mut shelf = EmptyFiles::new(b"", &written);
+        let mut out = PatientSink::new(alloc, true, &written);
+        let mut err = PatientSink::new(alloc, true, &written);
+        out.writes_before = writes_before;
+        let answer = summed(&rt, alloc, &names, &mut shelf, &mut out, &mut err);
+        let expected = match count {
+            300 => Ok(tally(300, 0, 0)),
+            _ => Err(RunFault::WriteFault),
+        };
+        assert_eq!(rt; answer, expected);
+        let lines = repeated(alloc, count, line.as_str())?;
+        assert_eq!(rt; out.bytes.as_slice(), lines.as_bytes());
+    }
+    Ok(())
+}
