@@ -14,7 +14,7 @@ returns-then-span-eq0 c = (
       c.loop-span.invariant c.loop-span-test.true in
       elim c.then-span-eq0.branch [
         | then-span-eq0-via-then-span-eq0 w ↦ absurd (omega (arith, next.1, w.if-span-eq0.true))
-        | then-span-eq0-via-else-span-eq0+then-span-next w ↦ absurd (w.if-span-next.true next.0)
+        | then-span-eq0-via-else-span-eq0+then-span-next w ↦ absurd (omega (arith, next.0, w.if-span-next.true))
         | then-span-eq0-via-else-span-eq0+else-span-next+then-not-is_subtree w ↦ absurd (search (
           rules,
           w.is_subtree.ensures.1 next.2,

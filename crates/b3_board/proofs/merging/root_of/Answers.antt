@@ -1,4 +1,4 @@
-use Rattle.std.proofs.Common.{rules, arith, refl, sym, ap, ◌∙◌}
+use Rattle.std.proofs.Common.{rules, arith, refl, ap}
 use Rattle.std.proofs.lemmas.Bool.{false≢true}
 use Rattle.b3_board.specs.Entries.{at, is_kept}
 use Rattle.b3_board.proofs.Partners.{what_is_kept}
@@ -15,8 +15,12 @@ returns-then-is_empty-clause-there g c = (
       let there = root_there (of.known on) (of.mode on) (of.first on) c.args.entries.now c.requires none in
       elim c.then-is_empty.branch [
         | then-is_empty-via-then-is_empty w ↦ absurd (search (rules, arith, there.2, w.if-is_empty.true))
-        | then-is_empty-via-else-is_empty+then-entries-chunk_count w ↦ absurd (w.if-entries-chunk_count.true (there.1
-            ∙ sym w.chunk_count.ensures.count))
+        | then-is_empty-via-else-is_empty+then-entries-chunk_count w ↦ absurd (omega (
+          arith,
+          there.1,
+          w.chunk_count.ensures.count,
+          w.if-entries-chunk_count.true,
+        ))
       ],
 )
 

@@ -23,7 +23,7 @@ of_bytes-requires-clause-told g c =
     λ whole is.
     sym (take_all c.in-Some.count bytes (omega (arith, count)))
     ∙ c.in-Some.ensures.bytes whole is
-    ∙ ap (λ (n : ℕ). take n (drop (reading.place + here) whole)) (room ∙ len) in
+    ∙ ap (λ (n : ℕ). take n (drop (reading.place + here) whole)) (count ∙ full ∙ len) in
     λ all known.
     let is = ap (λ (k : Known). k.told) c.requires.own.input_is ∙ known in
     let h = region_part told reading.place reading.len span bytes reading.there low read all is in
