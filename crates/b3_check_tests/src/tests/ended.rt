@@ -38,7 +38,7 @@ impl Ended {
     }
 }
 
-fn ended(
+fn ended_of(
     alloc: Global,
     answer: Result<Tally, RunFault>,
     out: &MemorySink,
@@ -113,7 +113,7 @@ pub fn sum<R: Abort + Threads + Wait + Sync, S: Shelf + Send + Sync, G: Gate + S
     let mut out = MemorySink::new(alloc);
     let mut err = MemorySink::new(alloc);
     let answer = sum_into(rt, alloc, shelf, &names, &mut out, &mut err, options, gate);
-    ended(alloc, answer, &out, &err)
+    ended_of(alloc, answer, &out, &err)
 }
 
 /// Checks lists, and writes into these sinks.
@@ -157,7 +157,7 @@ pub fn check<R: Abort + Threads + Wait + Sync, S: Shelf + Send + Sync, G: Gate +
     let mut out = MemorySink::new(alloc);
     let mut err = MemorySink::new(alloc);
     let answer = check_into(rt, alloc, shelf, &lists, &mut out, &mut err, options, gate);
-    ended(alloc, answer, &out, &err)
+    ended_of(alloc, answer, &out, &err)
 }
 
 // Files in memory.

@@ -2,7 +2,7 @@
 
 use crate::tests::checks::{THREE_COMPLAINTS, THREE_LINES, THREE_VERDICTS};
 use crate::tests::ended::{Ended, check_files, check_into};
-use crate::tests::recording::{PieceSink, RecordedFiles, file};
+use crate::tests::recording::{PieceSink, RecordedFiles, file_of};
 use crate::tests::{EMPTY, ONE_BYTE, check_options, joined, lines_tally, tally};
 use b3_board::OpenGate;
 use b3_check::{RunFault, Tally};
@@ -22,9 +22,9 @@ fn three_lines<R: AllocGlobal + Abort + Threads + Wait + Sync>(
 ) -> Result<Ended, Fail> {
     let alloc = rt.alloc();
     let files = [
-        file(alloc, "l", THREE_LINES)?,
-        file(alloc, "x", b"\0")?,
-        file(alloc, "y", b"")?,
+        file_of(alloc, "l", THREE_LINES)?,
+        file_of(alloc, "x", b"\0")?,
+        file_of(alloc, "y", b"")?,
     ];
     let mut shelf = RecordedFiles::new(alloc, &files, usize::MAX, calls_before);
     let mut out = PieceSink::new(alloc, 1, out_before);

@@ -6,7 +6,7 @@ ghost use Rattle.std.specs.Prelude.{◌≡◌, [], None, false, true};
 use crate::tests::contents::{PIECES, SHORT, WINDOWS, pattern};
 use crate::tests::ended::{sum, sum_files};
 use crate::tests::meeting::Yielding;
-use crate::tests::recording::{RecordedFiles, file};
+use crate::tests::recording::{RecordedFiles, file_of};
 use crate::tests::{EMPTY, ONE_BYTE, joined, options, tally};
 use b3_board::OpenGate;
 use b3_check::{CannotRead, NoContent, Shelf, SumOptions};
@@ -36,9 +36,9 @@ fn assert_sums<R: Abort + Threads + Wait + Sync>(
     let ended = sum_files(rt, alloc, &files, &names, asked)?;
     ended.assert(rt, digest, Ok(tally(3, 0, 0)), lines.as_bytes(), b"");
     let files = [
-        file(alloc, "a", content)?,
-        file(alloc, "b", b"\0")?,
-        file(alloc, "c", b"")?,
+        file_of(alloc, "a", content)?,
+        file_of(alloc, "b", b"\0")?,
+        file_of(alloc, "c", b"")?,
     ];
     let mut shelf = RecordedFiles::new(alloc, &files, usize::MAX, u64::MAX);
     let ended = sum(rt, alloc, &mut shelf, &names, asked, &Yielding)?;

@@ -12,7 +12,7 @@ pub struct File {
     pub content: Vec<u8>,
 }
 
-pub fn file(alloc: Global, name: &'static str, content: &[u8]) -> Result<File, AllocError> {
+pub fn file_of(alloc: Global, name: &'static str, content: &[u8]) -> Result<File, AllocError> {
     let content = Vec::from_slice(alloc, content)?;
     Ok(File { name, content })
 }

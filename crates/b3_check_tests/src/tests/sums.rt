@@ -2,7 +2,7 @@
 
 use crate::tests::contents::pattern;
 use crate::tests::ended::{Ended, sum, sum_files, sum_into};
-use crate::tests::recording::{PieceSink, RecordedFiles, file};
+use crate::tests::recording::{PieceSink, RecordedFiles, file_of};
 use crate::tests::{EMPTY, KEY, KEYED_EMPTY, joined, options, tally};
 use b3_board::OpenGate;
 use b3_check::{Form, KeyChoice, RunFault};
@@ -172,9 +172,9 @@ fn keys_that_are_read(rt: HostRuntime) -> Result<(), Fail> {
 fn a_key_may_take_more_reads_than_a_file(rt: HostRuntime) -> Result<(), Fail> {
     let alloc = rt.alloc();
     let files = [
-        file(alloc, "-", KEY)?,
-        file(alloc, "e", b"")?,
-        file(alloc, "x", b"\0")?,
+        file_of(alloc, "-", KEY)?,
+        file_of(alloc, "e", b"")?,
+        file_of(alloc, "x", b"\0")?,
     ];
     for (name, expected) in [
         ("e", Ok(tally(1, 0, 0))),
@@ -209,7 +209,7 @@ fn a_content_and_its_last_read(rt: HostRuntime) -> Result<(), Fail> {
     // of 99 bytes, by the installed b3sum
     let line = b"a2c85460e965626580e9cfa7a8aef6047720ee48efdd0ef27613ed358425e57a  -\n";
     for (length, largest) in [(99, 1_000), (100, 1_000), (100, 100), (100, 99)] {
-        let files = [file(alloc, "-", pattern(alloc, length)?.as_slice())?];
+        let files = [file_of(alloc, "-", pattern(alloc, length)?.as_slice())?];
         let mut shelf = RecordedFiles::new(alloc, &files, 1, u64::MAX);
         let ended = sum(
             &rt,
@@ -237,7 +237,7 @@ fn sum_by_bytes<R: AllocGlobal + Abort + Threads + Wait + Sync>(
     let alloc = rt.alloc();
     let mut files = Vec::new(alloc);
     if let Some(content) = content {
-        files.push(file(alloc, "-", content)?)?;
+        files.push(file_of(alloc, "-", content)?)?;
     }
     let mut shelf = RecordedFiles::new(alloc, files.as_slice(), 1, u64::MAX);
     let mut out = PieceSink::new(alloc, 1, most);
@@ -290,7 +290,7 @@ fn a_shelf_that_fails_in_mid_stream(rt: HostRuntime) -> Result<(), Fail> {
     let alloc = rt.alloc();
     // by the installed b3sum
     let line = b"23234e1e0182c5d9cac4a73600596e47b2d0fbdd84a42f4fe32a7feabe2e36e5  a\n";
-    let files = [file(alloc, "a", b"ten bytes.")?];
+    let files = [file_of(alloc, "a", b"ten bytes.")?];
     for calls_before in 0..5 {
         let mut shelf = RecordedFiles::new(alloc, &files, 4, calls_before);
         let ended = sum(

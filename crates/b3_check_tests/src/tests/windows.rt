@@ -4,7 +4,7 @@
 use crate::tests::contents::{WINDOWS, pattern};
 use crate::tests::ended::{check, sum};
 use crate::tests::meeting::Yielding;
-use crate::tests::recording::{File, RecordedFiles, file};
+use crate::tests::recording::{File, RecordedFiles, file_of};
 use crate::tests::{EMPTY, ONE_BYTE, check_options, joined, lines_tally, options, tally};
 use b3_board::{Gate, OpenGate};
 use b3_check::RunFault;
@@ -47,9 +47,9 @@ fn assert_by_pieces<R: Abort + Threads + Wait + Sync>(
 ) -> Result<(), Fail> {
     let content = pattern(alloc, len)?;
     let files = [
-        file(alloc, "a", content.as_slice())?,
-        file(alloc, "b", b"\0")?,
-        file(alloc, "c", b"")?,
+        file_of(alloc, "a", content.as_slice())?,
+        file_of(alloc, "b", b"\0")?,
+        file_of(alloc, "c", b"")?,
     ];
     for most in pieces {
         assert_in_order(rt, alloc, &files, *most, digest, &OpenGate)?;
@@ -81,7 +81,7 @@ fn assert_failures<R: Abort + Threads + Wait + Sync, G: Gate + Sync>(
     alloc: Global,
     gate: &G,
 ) -> Result<(), Fail> {
-    let files = [file(alloc, "a", pattern(alloc, LEN)?.as_slice())?];
+    let files = [file_of(alloc, "a", pattern(alloc, LEN)?.as_slice())?];
     let line = joined(alloc, &[DIGEST, "  a\n"])?;
     for calls_before in [0, 1, 2, 3, 4, 5, 32, 33, 34, 40, 64, 65, 96, 97] {
         let mut shelf = RecordedFiles::new(alloc, &files, 65_536, calls_before);
@@ -104,7 +104,7 @@ fn assert_last_read<R: Abort + Threads + Wait + Sync, G: Gate + Sync>(
     alloc: Global,
     gate: &G,
 ) -> Result<(), Fail> {
-    let files = [file(alloc, "a", pattern(alloc, LEN)?.as_slice())?];
+    let files = [file_of(alloc, "a", pattern(alloc, LEN)?.as_slice())?];
     let line = joined(alloc, &[DIGEST, "  a\n"])?;
     for turns in [1, 32, 33, 96, 97] {
         let mut shelf = RecordedFiles::new(alloc, &files, 65_536, u64::MAX);
@@ -132,8 +132,8 @@ fn assert_checked<R: Abort + Threads + Wait + Sync, G: Gate + Sync>(
 ) -> Result<(), Fail> {
     let list = joined(alloc, &[DIGEST, "  a\n", EMPTY, "  a\n", DIGEST, "  a\n"])?;
     let files = [
-        file(alloc, "a", pattern(alloc, LEN)?.as_slice())?,
-        file(alloc, "l", list.as_bytes())?,
+        file_of(alloc, "a", pattern(alloc, LEN)?.as_slice())?,
+        file_of(alloc, "l", list.as_bytes())?,
     ];
     let mut shelf = RecordedFiles::new(alloc, &files, usize::MAX, u64::MAX);
     let ended = check(

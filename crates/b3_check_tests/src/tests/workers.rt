@@ -29,7 +29,7 @@ struct Texts {
     verdicts: String,
 }
 
-fn texts(alloc: Global, content: &[u8]) -> Result<Texts, Fail> {
+fn texts_of(alloc: Global, content: &[u8]) -> Result<Texts, Fail> {
     let mut names = Vec::new(alloc);
     let mut lines = Vec::new(alloc);
     let mut verdicts = String::new(alloc);
@@ -58,7 +58,7 @@ fn assert_runs<R: Abort + Threads + Wait + Sync, G: Gate + Sync>(
 ) -> Result<(), Fail> {
     let content = pattern(alloc, 40_000)?;
     let content = content.as_slice();
-    let texts = texts(alloc, content)?;
+    let texts = texts_of(alloc, content)?;
     let mut out = MemorySink::new(alloc);
     let mut err = MemorySink::new(alloc);
     let mut shelf = LetteredFiles::new(alloc, content, b"", 65_536, false);
