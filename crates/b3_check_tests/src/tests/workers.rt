@@ -53,12 +53,11 @@ fn texts_of(alloc: Global, content: &[u8]) -> Result<Texts, Fail> {
 fn assert_runs<R: Abort + Threads + Wait + Sync, G: Gate + Sync>(
     rt: &R,
     alloc: Global,
+    content: &[u8],
+    texts: &Texts,
     workers: u32,
     gate: &G,
 ) -> Result<(), Fail> {
-    let content = pattern(alloc, 40_000)?;
-    let content = content.as_slice();
-    let texts = texts_of(alloc, content)?;
     let mut out = MemorySink::new(alloc);
     let mut err = MemorySink::new(alloc);
     let mut shelf = LetteredFiles::new(alloc, content, b"", 65_536, false);
@@ -83,11 +82,14 @@ fn assert_runs<R: Abort + Threads + Wait + Sync, G: Gate + Sync>(
 
 #[test]
 fn a_hundred_files_by_each_number_of_workers(rt: HostRuntime) -> Result<(), Fail> {
-    for workers in [1, 2, 3, 4, 64] {
-        assert_runs(&rt, rt.alloc(), workers, &Yielding)?;
-        assert_runs(&rt, rt.alloc(), workers, &OpenGate)?;
+    let alloc = rt.alloc();
+    let content = pattern(alloc, 40_000)?;
+    let content = content.as_slice();
+    let texts = texts_of(alloc, content)?;
+    for workers in [1, 2, 4, 64] {
+        assert_runs(&rt, alloc, content, &texts, workers, &Yielding)?;
     }
-    Ok(())
+    assert_runs(&rt, alloc, content, &texts, 4, &OpenGate)
 }
 
 // A file of so many bytes, its digest by the installed b3sum, how many workers hash it, and how many spans of 16 KiB
