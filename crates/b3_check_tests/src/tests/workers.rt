@@ -92,64 +92,85 @@ fn a_hundred_files_by_each_number_of_workers(rt: HostRuntime) -> Result<(), Fail
     assert_runs(&rt, alloc, content, &texts, 4, &OpenGate)
 }
 
-// A file of so many bytes, its digest by the installed b3sum, how many workers hash it, and how many spans of 16 KiB
-// they have. A window has 128 spans; the byte after the third window is one more.
-const AT_ONCE: [(u64, &str, u32, u64); 7] = [
-    (40_000, FORTY_THOUSAND, 2, 3),
-    (40_000, FORTY_THOUSAND, 3, 3),
-    (1 << 20, ONE_MEBIBYTE, 2, 64),
-    (1 << 20, ONE_MEBIBYTE, 3, 64),
-    (1 << 20, ONE_MEBIBYTE, 4, 64),
-    (1 << 20, ONE_MEBIBYTE, 64, 64),
-    (
-        6_291_457,
-        "03257e11baab468ebb5b5131dbbf8d50568eed1cf40bb2180c1ae1c552fed2fd",
-        4,
-        3 * 128 + 1,
-    ),
-];
+// A file: its name, the bytes it has, its digest by the installed b3sum, how many workers hash it, and how many spans of
+// 16 KiB they have. A window has 128 spans; the byte after the third window is one more.
+struct File {
+    name: &'static str,
+    len: u64,
+    digest: &'static str,
+    workers: u32,
+    spans: u64,
+}
 
-const FORTY_THOUSAND: &str = "ccd32b4544a24c50fbefb249e10a8fcedc26e2794c79eb8a44ad0631bf07f53f";
+const SMALL: File = File {
+    name: "g40000",
+    len: 40_000,
+    digest: "ccd32b4544a24c50fbefb249e10a8fcedc26e2794c79eb8a44ad0631bf07f53f",
+    workers: 2,
+    spans: 3,
+};
 
-const ONE_MEBIBYTE: &str = "74cb441fd087764ca9c3694da742ebe30cbeb3060a17009ca81825c7a8d10343";
+const ONE_MEBIBYTE: File = File {
+    name: "g1048576",
+    len: 1_048_576,
+    digest: "74cb441fd087764ca9c3694da742ebe30cbeb3060a17009ca81825c7a8d10343",
+    workers: 4,
+    spans: 64,
+};
+
+const THREE_WINDOWS: File = File {
+    name: "g6291457",
+    len: 6_291_457,
+    digest: "03257e11baab468ebb5b5131dbbf8d50568eed1cf40bb2180c1ae1c552fed2fd",
+    workers: 4,
+    spans: 3 * 128 + 1,
+};
 
 // All workers that are asked for and no more hash at the same time, and each span is hashed once.
-fn assert_met(rt: &impl Abort, gate: &AllAtOnce, workers: u32, spans: u64) {
+fn assert_met(rt: &impl Abort, gate: &AllAtOnce, file: &File) {
+    let workers = file.workers;
     assert!(rt; gate.workers.have_met(), "{workers} workers");
     assert_eq!(rt; gate.workers.guests(), workers);
-    assert_eq!(rt; gate.calls(), spans, "{workers} workers");
+    assert_eq!(rt; gate.calls(), file.spans, "{workers} workers");
 }
 
 // By either engine.
+fn assert_at_once<R: Abort + Threads + Wait + Sync>(
+    rt: &R,
+    alloc: Global,
+    file: &File,
+) -> Result<(), Fail> {
+    let content = pattern(alloc, file.len)?;
+    let line = joined(alloc, &[file.digest, "  ", file.name, "\n"])?;
+    let verdict = joined(alloc, &[file.name, ": OK\n"])?;
+    let mut asked = options(100, 0);
+    asked.workers = file.workers;
+    let mut shelf = LetteredFiles::new(alloc, content.as_slice(), b"", 65_536, false);
+    let gate = AllAtOnce::new(file.workers);
+    let ended = sum(rt, alloc, &mut shelf, &[file.name], &asked, &gate)?;
+    ended.assert(rt, file.name, Ok(tally(1, 0, 0)), line.as_bytes(), b"");
+    assert_met(rt, &gate, file);
+
+    let mut asked = check_options(false, 1_000);
+    asked.workers = file.workers;
+    let mut shelf = LetteredFiles::new(alloc, content.as_slice(), line.as_bytes(), 65_536, false);
+    let gate = AllAtOnce::new(file.workers);
+    let ended = check(rt, alloc, &mut shelf, &["l"], &asked, &gate)?;
+    ended.assert(rt, file.name, Ok(tally(1, 0, 0)), verdict.as_bytes(), b"");
+    assert_met(rt, &gate, file);
+    Ok(())
+}
+
 #[test]
 fn all_workers_at_once(rt: HostRuntime) -> Result<(), Fail> {
-    let alloc = rt.alloc();
-    for (len, digest, workers, spans) in &AT_ONCE {
-        let content = pattern(alloc, *len)?;
-        let name = format!(in alloc; "g{len}")?;
-        let line = joined(alloc, &[*digest, "  ", name.as_str(), "\n"])?;
-        let mut shelf = LetteredFiles::new(alloc, content.as_slice(), b"", 65_536, false);
-        let mut asked = options(100, 0);
-        asked.workers = *workers;
-        let gate = AllAtOnce::new(*workers);
-        let ended = sum(&rt, alloc, &mut shelf, &[name.as_str()], &asked, &gate)?;
-        ended.assert(&rt, digest, Ok(tally(1, 0, 0)), line.as_bytes(), b"");
-        assert_met(&rt, &gate, *workers, *spans);
-
-        let verdict = joined(alloc, &[name.as_str(), ": OK\n"])?;
-        let mut shelf = LetteredFiles::new(
-            alloc,
-            content.as_slice(),
-            line.as_bytes(),
-            65_536,
-            false,
-        );
-        let mut asked = check_options(false, 1_000);
-        asked.workers = *workers;
-        let gate = AllAtOnce::new(*workers);
-        let ended = check(&rt, alloc, &mut shelf, &["l"], &asked, &gate)?;
-        ended.assert(&rt, digest, Ok(tally(1, 0, 0)), verdict.as_bytes(), b"");
-        assert_met(&rt, &gate, *workers, *spans);
+    assert_at_once(&rt, rt.alloc(), &SMALL)?;
+    assert_at_once(&rt, rt.alloc(), &THREE_WINDOWS)?;
+    for workers in [2, 3, 4, 64] {
+        let file = File {
+            workers,
+            ..ONE_MEBIBYTE
+        };
+        assert_at_once(&rt, rt.alloc(), &file)?;
     }
     Ok(())
 }
