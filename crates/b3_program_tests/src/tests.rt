@@ -357,7 +357,7 @@ where
     let wanted = &wanted[..wanted.len().min(1_000)];
     let given = shelf.read_at(place as u64, &mut room);
     assert_eq!(rt; given, Some(wanted.len()), "at {place}");
-    assert_eq!(rt; &room[..wanted.len()], wanted, "at {place}");
+    assert!(rt; room.starts_with(wanted), "at {place}");
 }
 
 // At many places, also around its end, a file gives what it gives in order, wherever it is; and it stays there.
@@ -376,7 +376,7 @@ fn a_file_is_read_at_its_places(rt: HostRuntime) -> Result<(), Fail> {
         let mut room = [0; 999];
         let count = shelf.read(&mut room).unwrap_or(0).min(rest.len()).min(999);
         assert!(rt; count > 0, "read {k}");
-        assert_eq!(rt; &room[..count], &rest[..count], "read {k}");
+        assert!(rt; rest.starts_with(&room[..count]), "read {k}");
         rest = &rest[count..];
     }
     Ok(())
