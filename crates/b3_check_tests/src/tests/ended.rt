@@ -8,7 +8,7 @@ use b3_check::{
     CheckOptions, Form, MemoryShelf, MemorySink, RunFault, Shelf, Sink, SumOptions, Tally,
     run_check, run_sum,
 };
-use std::alloc::Global;
+use std::alloc::{AllocError, Global};
 use std::process::Abort;
 use std::sync::Wait;
 use std::test::Fail;
@@ -160,15 +160,30 @@ pub fn check<R: Abort + Threads + Wait + Sync, S: Shelf + Send + Sync, G: Gate +
     ended_of(alloc, answer, &out, &err)
 }
 
+// A shelf in memory, of which nothing was asked yet.
+#[derive(Drop)]
+struct NewShelf {
+    shelf: MemoryShelf,
+    ghost unasked: { ⟦<MemoryShelf as Shelf>⟧.failures shelf ≡ 0 },
+}
+
+impl NewShelf {
+    fn put(&mut self, name: &str, content: &[u8]) -> Result<(), AllocError> {
+        self.shelf.put(name, content)
+    }
+}
+
 // Files in memory.
 fn shelf_of(alloc: Global, files: &[(&str, &[u8])]) -> Result<MemoryShelf, Fail>
     ensures { IfOk result (λ shelf. ⟦<MemoryShelf as Shelf>⟧.failures shelf ≡ 0) }
 {
-    let mut shelf = MemoryShelf::new(alloc);
+    let mut new = NewShelf {
+        shelf: MemoryShelf::new(alloc),
+    };
     for (name, content) in files {
-        shelf.put(*name, *content)?;
+        new.put(*name, *content)?;
     }
-    Ok(shelf)
+    Ok(new.shelf)
 }
 
 /// Sums names of these files in memory, behind an open gate.

@@ -1,5 +1,5 @@
-// Names of a shelf that lets nobody peek: each is begun once, in its turn, behind either gate. Names that may be peeked:
-// what is written is the same, and those alone are begun that cannot be.
+// Names of a shelf that lets nobody peek: each is begun once, in its turn, behind either gate. Names that may be
+// peeked: what is written is the same, and those alone are begun that cannot be.
 
 use crate::tests::contents::pattern;
 use crate::tests::ended::{check, sum_into};

@@ -92,8 +92,8 @@ fn a_hundred_files_by_each_number_of_workers(rt: HostRuntime) -> Result<(), Fail
     assert_runs(&rt, alloc, content, &texts, 4, &OpenGate)
 }
 
-// A file: its name, the bytes it has, its digest by the installed b3sum, how many workers hash it, and how many spans of
-// 16 KiB they have. A window has 128 spans; the byte after the third window is one more.
+// A file: its name, the bytes it has, its digest by the installed b3sum, how many workers hash it, and how many spans
+// of 16 KiB they have. A window has 128 spans; the byte after the third window is one more.
 #[derive(Drop)]
 struct File {
     name: &'static str,
