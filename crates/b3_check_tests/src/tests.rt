@@ -1,16 +1,14 @@
 // What runs write and count, over devices in memory and devices that take few bytes a call.
 
-ghost use Rattle.std.specs.Prelude.{◌≡◌, ◌^◌, ◌≤◌};
-ghost use Rattle.b3_check.specs.Options.{CanCheck, CanRun};
-
 mod beside;
 mod checks;
-mod devices;
+mod contents;
+mod ended;
 mod faults;
-mod faulty_files;
 mod gathered;
 mod in_order;
 mod lettered_files;
+mod meeting;
 mod memory;
 mod pieces;
 mod plain_lines;
@@ -62,13 +60,7 @@ const fn lines_tally(ok: u64, differing: u64, unreadable: u64, malformed: u64) -
 }
 
 // A check line of 32 bytes, without a key.
-fn options(turns: u64, largest: u64) -> SumOptions
-    requires turns { (1 ≤ turns) × (turns ≤ 2 ^ 40) }
-    requires largest { largest ≤ 2 ^ 30 }
-    ensures can_run { CanRun result }
-    ensures seek { result.seek ≡ 0 }
-    ensures form { result.form ≡ Form.Named }
-{
+fn options(turns: u64, largest: u64) -> SumOptions {
     SumOptions {
         key: KeyChoice::Plain,
         seek: 0,
@@ -80,10 +72,7 @@ fn options(turns: u64, largest: u64) -> SumOptions
     }
 }
 
-fn check_options(quiet: bool, largest: u64) -> CheckOptions
-    requires { largest ≤ 2 ^ 30 }
-    ensures { CanCheck result }
-{
+fn check_options(quiet: bool, largest: u64) -> CheckOptions {
     CheckOptions {
         quiet,
         ignore_missing: false,
@@ -94,15 +83,6 @@ fn check_options(quiet: bool, largest: u64) -> CheckOptions
         turns: 1_000,
         largest,
     }
-}
-
-// The bytes 0 to 250, over and over.
-fn pattern(alloc: Global, count: u64) -> Result<Vec<u8>, Fail> {
-    let mut bytes = Vec::new(alloc);
-    for k in 0..count {
-        bytes.push((k % 251) as u8)?;
-    }
-    Ok(bytes)
 }
 
 // These pieces, one after the other.

@@ -8,8 +8,13 @@ use std::alloc::{AllocError, Allocator};
 use std::fs::{File, Metadata, OpenFile, OpenOptions};
 use std::io::{self, ErrorKind, Read, Seek, SeekFrom, Write};
 use std::os::unix::fs::FileExt;
+use std::process::Abort;
 use std::rt::Files;
+use std::sync::atomic::{AtomicU64, Ordering};
 use std::test::Fail;
+
+// The program that runs: a plain file of some length.
+const OWN_PROGRAM: &str = "/proc/self/exe";
 
 // Is interrupted before each call that it lets through.
 #[derive(Drop)]
@@ -81,45 +86,59 @@ fn the_input_is_begun_once_and_gives_its_bytes(rt: HostRuntime) {
     assert_eq!(rt; shelf.read(&mut room), Ok(0));
 }
 
-// A file without bytes, whose bytes were taken away since its length was told.
+// A file in memory that gives one byte a call, and at a place is interrupted before each call that it lets through.
 #[derive(Drop)]
-struct EmptyFile;
+struct BytewiseFile<'a> {
+    content: &'a [u8],
+    place: usize,
+    calls: AtomicU64,
+}
 
-impl Read for EmptyFile {
-    fn read(&mut self, _buf: &mut [u8]) -> io::Result<usize> {
-        Ok(0)
+impl Read for BytewiseFile<'_> {
+    fn read(&mut self, buf: &mut [u8]) -> io::Result<usize> {
+        let rest = &self.content[self.place.min(self.content.len())..];
+        let count = rest.len().min(buf.len()).min(1);
+        buf[..count].copy_from_slice(&rest[..count]);
+        self.place = self.place.saturating_add(count);
+        Ok(count)
     }
 }
 
-impl Write for EmptyFile {
+impl Write for BytewiseFile<'_> {
     fn write(&mut self, _buf: &[u8]) -> io::Result<usize> {
-        Ok(0)
+        unsupported()
     }
 
     fn flush(&mut self) -> io::Result<()> {
-        Ok(())
+        unsupported()
     }
 }
 
-impl Seek for EmptyFile {
+impl Seek for BytewiseFile<'_> {
     fn seek(&mut self, _pos: SeekFrom) -> io::Result<u64> {
-        Ok(0)
+        unsupported()
     }
 }
 
-impl FileExt for EmptyFile {
-    fn read_at(&self, _buf: &mut [u8], _offset: u64) -> io::Result<usize> {
-        Ok(0)
+impl FileExt for BytewiseFile<'_> {
+    fn read_at(&self, buf: &mut [u8], offset: u64) -> io::Result<usize> {
+        if self.calls.fetch_add(1, Ordering::SeqCst) % 2 == 0 {
+            return Err(io::Error::from(ErrorKind::Interrupted));
+        }
+        let rest = &self.content[(offset as usize).min(self.content.len())..];
+        let count = rest.len().min(buf.len()).min(1);
+        buf[..count].copy_from_slice(&rest[..count]);
+        Ok(count)
     }
 
     fn write_at(&self, _buf: &[u8], _offset: u64) -> io::Result<usize> {
-        Ok(0)
+        unsupported()
     }
 }
 
-impl OpenFile for EmptyFile {
+impl OpenFile for BytewiseFile<'_> {
     fn metadata(&self) -> io::Result<Metadata> {
-        unsupported()
+        Ok(Metadata::of_file(self.content.len() as u64))
     }
 
     fn set_len(&self, _size: u64) -> io::Result<()> {
@@ -143,28 +162,33 @@ fn unsupported<T>() -> io::Result<T> {
 #[derive(Drop)]
 struct OnePath<'a> {
     path: &'a str,
+    content: &'a [u8],
 }
 
-impl Files for OnePath<'_> {
-    type File = EmptyFile;
+impl<'a> Files for OnePath<'a> {
+    type File = BytewiseFile<'a>;
 
-    type Dir = EmptyFile;
+    type Dir = BytewiseFile<'a>;
 
-    fn open_file(&self, _how: &OpenOptions, path: &str) -> io::Result<EmptyFile> {
+    fn open_file(&self, _how: &OpenOptions, path: &str) -> io::Result<BytewiseFile<'a>> {
         if path == self.path {
-            Ok(EmptyFile)
+            Ok(BytewiseFile {
+                content: self.content,
+                place: 0,
+                calls: AtomicU64::new(0),
+            })
         } else {
             Err(io::Error::from(ErrorKind::NotFound))
         }
     }
 
-    fn open_dir(&self, _path: &str) -> io::Result<EmptyFile> {
+    fn open_dir(&self, _path: &str) -> io::Result<BytewiseFile<'a>> {
         unsupported()
     }
 
     fn metadata(&self, path: &str) -> io::Result<Metadata> {
         if path == self.path {
-            Ok(Metadata::of_file(4))
+            Ok(Metadata::of_file(self.content.len() as u64))
         } else {
             Err(io::Error::from(ErrorKind::NotFound))
         }
@@ -245,7 +269,10 @@ fn the_named_file_is_opened(rt: HostRuntime) -> Result<(), AllocError> {
         " ",
         long.as_str(),
     ] {
-        let files = OnePath { path };
+        let files = OnePath {
+            path,
+            content: b"four",
+        };
         let mut shelf = FileShelf::new(&files, b"".as_slice());
         assert_eq!(&rt; shelf.begin(path), Ok(()), "{path}");
         assert_eq!(&rt; shelf.begin("another"), Err(NoContent::Missing), "{path}");
@@ -289,30 +316,111 @@ fn a_plain_file_alone_is_looked_at(rt: HostRuntime) {
     ] {
         assert_eq!(rt; peeked(&shelf, name, u64::MAX), None, "{name}");
     }
-    assert_eq!(rt; peeked(&shelf, "/proc/self/exe", 1_024), None);
+    assert_eq!(rt; peeked(&shelf, OWN_PROGRAM, 1_024), None);
 }
 
-// A file that is read at its places is the file that is read in order.
-#[test]
-fn a_file_is_looked_at_piece_by_piece(rt: HostRuntime) -> Result<(), Fail> {
-    let mut file = File::open(&rt, "/proc/self/exe")?;
-    let mut hasher = Hasher::new(Mode::hash());
+// The bytes of the program that runs, read in order.
+fn own_program<R: Files + AllocGlobal>(rt: &R) -> Result<Vec<u8>, Fail> {
+    let mut file = File::open(rt, OWN_PROGRAM)?;
+    let mut content = Vec::new(rt.alloc());
     let mut room = [0; 4_096];
     for _ in 0..1_000_000u64 {
-        let count = file.read(&mut room)?;
-        hasher.update(&room[..count.min(4_096)])?;
+        let count = file.read(&mut room)?.min(4_096);
         if count == 0 {
             break;
         }
+        content.extend_from_slice(&room[..count])?;
     }
+    Ok(content)
+}
+
+#[test]
+fn a_file_is_looked_at_piece_by_piece(rt: HostRuntime) -> Result<(), Fail> {
+    let content = own_program(&rt)?;
+    let mut hasher = Hasher::new(Mode::hash());
+    hasher.update(content.as_slice())?;
     let len = hasher.len();
     let shelf = FileShelf::new(&rt, b"".as_slice());
     assert!(rt; len > 100_000);
-    assert_eq!(rt;
-        peeked(&shelf, "/proc/self/exe", len),
-        Some(digest_of(&hasher))
-    );
-    assert_eq!(rt; peeked(&shelf, "/proc/self/exe", len - 1), None);
+    assert_eq!(rt; peeked(&shelf, OWN_PROGRAM, len), Some(digest_of(&hasher)));
+    assert_eq!(rt; peeked(&shelf, OWN_PROGRAM, len - 1), None);
+    Ok(())
+}
+
+// What the shelf gives at a place is what stands there of the rest of the file.
+fn assert_at<F: Files>(rt: &impl Abort, shelf: &FileShelf<'_, F, &[u8]>, rest: &[u8], place: usize)
+where
+    F::File: FileExt,
+{
+    let mut room = [0; 1_000];
+    let wanted = &rest[place.min(rest.len())..];
+    let wanted = &wanted[..wanted.len().min(1_000)];
+    let given = shelf.read_at(place as u64, &mut room);
+    assert_eq!(rt; given, Some(wanted.len()), "at {place}");
+    assert!(rt; room.starts_with(wanted), "at {place}");
+}
+
+// At many places, also around its end, a file gives what it gives in order, wherever it is; and it stays there.
+#[test]
+fn a_file_is_read_at_its_places(rt: HostRuntime) -> Result<(), Fail> {
+    let content = own_program(&rt)?;
+    let mut rest = content.as_slice();
+    let mut shelf = FileShelf::new(&rt, b"".as_slice());
+    assert_eq!(rt; shelf.begin(OWN_PROGRAM), Ok(()));
+    for k in 0..100usize {
+        assert_eq!(rt; shelf.len_hint(), rest.len() as u64);
+        assert_at(&rt, &shelf, rest, k);
+        assert_at(&rt, &shelf, rest, rest.len() / 100 * k);
+        assert_at(&rt, &shelf, rest, rest.len().saturating_sub(11 * k));
+        assert_at(&rt, &shelf, rest, rest.len().saturating_add(k));
+        let mut room = [0; 999];
+        let count = shelf.read(&mut room).unwrap_or(0).min(rest.len()).min(999);
+        assert!(rt; count > 0, "read {k}");
+        assert!(rt; rest.starts_with(&room[..count]), "read {k}");
+        rest = &rest[count..];
+    }
+    Ok(())
+}
+
+#[test]
+fn a_plain_file_alone_tells_its_length(rt: HostRuntime) {
+    let mut shelf = FileShelf::new(&rt, b"four".as_slice());
+    let mut room = [0; 8];
+    assert_eq!(rt; shelf.len_hint(), 0);
+    assert_eq!(rt; shelf.read_at(0, &mut room), None);
+    assert_eq!(rt; shelf.begin("-"), Ok(()));
+    assert_eq!(rt; shelf.len_hint(), 0);
+    assert_eq!(rt; shelf.read_at(0, &mut room), None);
+    for name in ["/dev/null", "/proc/self/stat"] {
+        assert_eq!(rt; shelf.begin(name), Ok(()), "{name}");
+        assert_eq!(rt; shelf.len_hint(), 0, "{name}");
+    }
+}
+
+// The digest of 1,025 bytes, 0 to 250 over and over, by the installed b3sum.
+const DIGEST: &[u8; 32] = b"\xd0\x02\x78\xae\x47\xeb\x27\xb3\x4f\xae\xcf\x67\xb4\xfe\x26\x3f\
+      \x82\xd5\x41\x29\x16\xc1\xff\xd9\x7c\x8c\xb7\xfb\x81\x4b\x84\x44";
+
+#[test]
+fn a_read_at_a_place_is_made_again_until_the_room_is_full(rt: HostRuntime) -> Result<(), Fail> {
+    let mut content = Vec::new(rt.alloc());
+    for k in 0..1_025u64 {
+        content.push((k % 251) as u8)?;
+    }
+    let files = OnePath {
+        path: "a",
+        content: content.as_slice(),
+    };
+    let mut shelf = FileShelf::new(&files, b"".as_slice());
+    let mut room = [0; 8];
+    assert_eq!(rt; peeked(&shelf, "a", 1_025), Some(*DIGEST));
+    assert_eq!(rt; peeked(&shelf, "a", 1_024), None);
+    assert_eq!(rt; shelf.begin("a"), Ok(()));
+    assert_eq!(rt; shelf.read(&mut room), Ok(1));
+    assert_eq!(rt; shelf.len_hint(), 1_024);
+    for place in [0, 1, 23, 24, 25, 1_000, 1_020, 1_024, 1_025] {
+        assert_at(&rt, &shelf, &content[1..], place);
+    }
     Ok(())
 }
 

@@ -1,53 +1,47 @@
-// Names that are peeked beside one another, and one file that is read at many places at once.
+// Names that are peeked beside one another, and one file that is read at many places at once, behind an open gate.
 
-ghost use Rattle.std.specs.Prelude.{◌≡◌, ◌^◌, ◌<◌, ◌≤◌, [], None, false, true, length};
+ghost use Rattle.std.specs.Prelude.{◌≡◌, [], None, false, true};
 
+use crate::tests::ended::{check, sum};
+use crate::tests::meeting::Meeting;
 use crate::tests::{EMPTY, check_options, joined, options, tally};
 use b3_board::OpenGate;
-use b3_check::{CannotRead, MemorySink, NoContent, Shelf, run_check, run_sum};
+use b3_check::{CannotRead, NoContent, Shelf};
 use b3_hash::Hasher;
 use std::alloc::Global;
 use std::process::Abort;
 use std::sync::Wait;
 use std::sync::atomic::{AtomicU64, Ordering};
 use std::test::Fail;
-use std::thread;
 use std::thread::Threads;
 
-/// Empty files, and the list under `l`. Each call that threads may make at once waits until so many of them are here,
-/// for at most a million turns.
+/// Empty files, and the list under `l`. Each call that threads may make at once waits until so many of them are here.
 #[derive(Drop)]
 struct MeetingShelf<'a> {
     list: &'a [u8],
     rest: &'a [u8],
-    // how long the files say that they are
+    // how long the files say that they are, and what the one that is begun says
+    len: u64,
     hint: u64,
-    wanted: u64,
-    here: AtomicU64,
-    met: AtomicU64,
+    calls: AtomicU64,
+    readers: Meeting,
 }
 
 impl<'a> MeetingShelf<'a> {
-    fn new(list: &'a [u8], hint: u64, wanted: u64) -> MeetingShelf<'a> {
+    fn new(list: &'a [u8], len: u64, wanted: u32) -> MeetingShelf<'a> {
         MeetingShelf {
             list,
             rest: &[],
-            hint,
-            wanted,
-            here: AtomicU64::new(0),
-            met: AtomicU64::new(0),
+            len,
+            hint: 0,
+            calls: AtomicU64::new(0),
+            readers: Meeting::new(wanted),
         }
     }
 
     fn meet(&self) {
-        self.here.fetch_add(1, Ordering::SeqCst);
-        for _ in 0..1_000_000u64 {
-            if self.here.load(Ordering::SeqCst) >= self.wanted {
-                self.met.store(1, Ordering::SeqCst);
-                return;
-            }
-            thread::yield_now();
-        }
+        self.readers
+            .attend(self.calls.fetch_add(1, Ordering::SeqCst));
     }
 }
 
@@ -63,7 +57,9 @@ impl Shelf for MeetingShelf<'_> {
     ghost left = { λ _. [] };
 
     fn begin(&mut self, name: &str) -> Result<(), NoContent> {
-        self.rest = if name == "l" { self.list } else { &[] };
+        let is_list = name == "l";
+        self.rest = if is_list { self.list } else { &[] };
+        self.hint = if is_list { 0 } else { self.len };
         Ok(())
     }
 
@@ -79,7 +75,7 @@ impl Shelf for MeetingShelf<'_> {
         true
     }
 
-    // Two bytes are asked for to see where the file ends.
+    // Two bytes are asked for to see where the file ends. It gives no piece, and is then read in order.
     fn read_at(&self, _place: u64, room: &mut [u8]) -> Option<usize> {
         if room.len() == 2 {
             return Some(1);
@@ -93,116 +89,64 @@ impl Shelf for MeetingShelf<'_> {
     }
 }
 
-// So many names `a`.
-fn names(alloc: Global, count: u32) -> Result<Vec<String>, Fail> {
+// So many times the name `a`, its lines, and what a check says of them.
+fn texts(alloc: Global, count: u64) -> Result<(Vec<&'static str>, String, String), Fail> {
     let mut names = Vec::new(alloc);
-    for _ in 0..count {
-        names.push(String::from_str(alloc, "a")?)?;
-    }
-    Ok(names)
-}
-
-// So many lines of the name `a`, and what a check says of them.
-fn lines(alloc: Global, count: u32) -> Result<(String, String), Fail> {
     let mut lines = String::new(alloc);
     let mut verdicts = String::new(alloc);
     let line = joined(alloc, &[EMPTY, "  a\n"])?;
     for _ in 0..count {
+        names.push("a")?;
         lines.push_str(line.as_str())?;
         verdicts.push_str("a: OK\n")?;
     }
-    Ok((lines, verdicts))
+    Ok((names, lines, verdicts))
 }
 
-// So many workers peek at once, in both engines.
-fn assert_peeked_at_once<R: Abort + Threads + Wait + Sync>(
+// Both engines go over so many empty files of this length, and as many workers as are asked for are at work at once.
+fn assert_at_once<R: Abort + Threads + Wait + Sync>(
     rt: &R,
     alloc: Global,
+    files: u64,
+    len: u64,
     workers: u32,
-) -> Result<(), Fail>
-    requires { (1 ≤ workers) × (workers ≤ 64) }
-{
-    let names = names(alloc, workers)?;
-    assert!(rt; names.len() <= 64);
-    let (lines, verdicts) = lines(alloc, workers)?;
-    let mut shelf = MeetingShelf::new(b"", 0, workers as u64);
-    let mut out = MemorySink::new(alloc);
-    let mut err = MemorySink::new(alloc);
-    let mut asked = options(2, 0);
-    asked.workers = workers;
-    let answer = run_sum(
-        rt, alloc, &mut shelf, &names, &mut out, &mut err, &asked, &OpenGate,
-    );
-    assert_eq!(rt; answer, Ok(tally(workers as u64, 0, 0)));
-    assert_eq!(rt; out.bytes(), lines.as_bytes());
-    assert_eq!(rt; shelf.met.load(Ordering::SeqCst), 1);
-
-    let lists = [String::from_str(alloc, "l")?];
-    let mut shelf = MeetingShelf::new(lines.as_bytes(), 0, workers as u64);
-    let mut out = MemorySink::new(alloc);
-    let mut asked = check_options(false, 10_000);
-    asked.workers = workers;
-    let answer = run_check(
-        rt, alloc, &mut shelf, &lists, &mut out, &mut err, &asked, &OpenGate,
-    );
-    assert_eq!(rt; answer, Ok(tally(workers as u64, 0, 0)));
-    assert_eq!(rt; out.bytes(), verdicts.as_bytes());
-    assert_eq!(rt; shelf.met.load(Ordering::SeqCst), 1);
-    assert!(rt; err.bytes().is_empty());
-    Ok(())
-}
-
-#[test]
-fn two_workers_peek_at_once(rt: HostRuntime) -> Result<(), Fail> {
-    assert_peeked_at_once(&rt, rt.alloc(), 2)
-}
-
-#[test]
-fn four_workers_peek_at_once(rt: HostRuntime) -> Result<(), Fail> {
-    assert_peeked_at_once(&rt, rt.alloc(), 4)
-}
-
-#[test]
-fn sixty_four_workers_peek_at_once(rt: HostRuntime) -> Result<(), Fail> {
-    assert_peeked_at_once(&rt, rt.alloc(), 64)
-}
-
-// So many workers read one file at once. It gives no piece, and is then read in order.
-fn assert_read_at_once<R: Abort + Threads + Wait + Sync>(
-    rt: &R,
-    alloc: Global,
-    workers: u32,
-) -> Result<(), Fail>
-    requires { (1 ≤ workers) × (workers ≤ 64) }
-{
-    let (lines, _) = lines(alloc, 1)?;
-    let mut shelf = MeetingShelf::new(b"", 1 << 28, workers as u64);
-    let mut out = MemorySink::new(alloc);
-    let mut err = MemorySink::new(alloc);
-    let names = [String::from_str(alloc, "a")?];
+) -> Result<(), Fail> {
+    let (names, lines, verdicts) = texts(alloc, files)?;
+    let mut shelf = MeetingShelf::new(b"", len, workers);
     let mut asked = options(10_000, 0);
     asked.workers = workers;
-    let answer = run_sum(
-        rt, alloc, &mut shelf, &names, &mut out, &mut err, &asked, &OpenGate,
+    let ended = sum(rt, alloc, &mut shelf, names.as_slice(), &asked, &OpenGate)?;
+    ended.assert(rt, "a sum", Ok(tally(files, 0, 0)), lines.as_bytes(), b"");
+    assert!(rt; shelf.readers.have_met(), "{workers} workers");
+
+    let mut shelf = MeetingShelf::new(lines.as_bytes(), len, workers);
+    let mut asked = check_options(false, 10_000);
+    asked.workers = workers;
+    asked.turns = 10_000;
+    let ended = check(rt, alloc, &mut shelf, &["l"], &asked, &OpenGate)?;
+    ended.assert(
+        rt,
+        "a check",
+        Ok(tally(files, 0, 0)),
+        verdicts.as_bytes(),
+        b"",
     );
-    assert_eq!(rt; answer, Ok(tally(1, 0, 0)));
-    assert_eq!(rt; out.bytes(), lines.as_bytes());
-    assert_eq!(rt; shelf.met.load(Ordering::SeqCst), 1);
-    assert!(rt; err.bytes().is_empty());
+    assert!(rt; shelf.readers.have_met(), "{workers} workers");
     Ok(())
 }
 
 #[test]
-fn two_workers_read_at_once(rt: HostRuntime) -> Result<(), Fail> {
-    assert_read_at_once(&rt, rt.alloc(), 2)
+fn all_workers_peek_at_once(rt: HostRuntime) -> Result<(), Fail> {
+    for workers in [2, 3, 4, 64u32] {
+        assert_at_once(&rt, rt.alloc(), workers as u64, 0, workers)?;
+    }
+    Ok(())
 }
 
 #[test]
-fn four_workers_read_at_once(rt: HostRuntime) -> Result<(), Fail> {
-    assert_read_at_once(&rt, rt.alloc(), 4)
-}
-
-#[test]
-fn sixty_four_workers_read_at_once(rt: HostRuntime) -> Result<(), Fail> {
-    assert_read_at_once(&rt, rt.alloc(), 64)
+fn all_workers_read_a_file_at_once(rt: HostRuntime) -> Result<(), Fail> {
+    for workers in [2, 3, 4, 64] {
+        assert_at_once(&rt, rt.alloc(), 1, 1 << 28, workers)?;
+    }
+    Ok(())
 }

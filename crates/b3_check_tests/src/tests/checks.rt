@@ -1,174 +1,115 @@
 // Runs that check lists.
 
-ghost use Rattle.std.specs.Prelude.{◌≡◌, ◌^◌, ◌<◌, IfOk};
-ghost use Rattle.b3_check.specs.Options.{CanCheck};
-
-use crate::tests::devices::{OneByteShelf, OneByteSink};
-use crate::tests::{EMPTY, ONE_BYTE, check_options, joined, lines_tally, tally};
+use crate::tests::contents::pattern;
+use crate::tests::ended::{check, check_files};
+use crate::tests::recording::{RecordedFiles, file_of};
+use crate::tests::{EMPTY, check_options, joined, lines_tally, tally};
 use b3_board::OpenGate;
-use b3_check::{
-    Answer, CheckOptions, MemoryShelf, MemorySink, RunFault, Shelf, Sink, Tally, Verdict, judge,
-    run_check,
-};
+use b3_check::{Answer, RunFault, Tally, Verdict, judge};
 use b3_lines::read_line;
-use std::alloc::Global;
-use std::sync::Wait;
 use std::test::Fail;
-use std::thread::Threads;
 
-// Checks one list with these options.
-pub fn check_one<R: Threads + Wait + Sync, S: Shelf + Send + Sync, O: Sink, E: Sink>(
-    rt: &R,
-    alloc: Global,
-    shelf: &mut S,
-    list: &str,
-    out: &mut O,
-    err: &mut E,
-    options: &CheckOptions,
-) -> Result<Tally, RunFault>
-    requires options { CanCheck options.now }
-    requires shelf { S.failures shelf.old < 2 ^ 63 }
-    requires out { O.failures out.old < 2 ^ 63 }
-    requires err { E.failures err.old < 2 ^ 63 }
-{
-    let lists = [String::from_str(alloc, list)?];
-    run_check(rt, alloc, shelf, &lists, out, err, options, &OpenGate)
-}
+// A list of a right line that ends in CR LF, a wrong one, and one that is cut off.
+pub const THREE_LINES: &[u8] =
+    b"2d3adedff11b61f14c886e35afa036736dcd87a74d27b5c1510225d0f592e213  x\r\n\
+      2d3adedff11b61f14c886e35afa036736dcd87a74d27b5c1510225d0f592e213  y\n\
+      2d3adedff11b61f14c886e35afa036736dcd87a74d27b5c1510225d0f592e213 ";
 
-// A list of a right line that ends in CR LF, a wrong one, and one that is cut off; and its two files.
-pub fn three_lines(alloc: Global) -> Result<MemoryShelf, Fail>
-    ensures { IfOk result (λ shelf. ⟦<MemoryShelf as Shelf>⟧.failures shelf ≡ 0) }
-{
-    let mut shelf = MemoryShelf::new(alloc);
-    let list = joined(
-        alloc,
-        &[ONE_BYTE, "  x\r\n", ONE_BYTE, "  y\n", ONE_BYTE, " "],
-    )?;
-    shelf.put("l", list.as_bytes())?;
-    shelf.put("x", b"\0")?;
-    shelf.put("y", b"")?;
-    Ok(shelf)
-}
+pub const THREE_VERDICTS: &[u8] = b"x: OK\ny: FAILED\n";
 
 pub const THREE_COMPLAINTS: &[u8] =
     b"b3sum: line 3: short line\nb3sum: WARNING: 2 computed checksums did NOT match\n";
 
+// Plain and tagged lines.
+const BOTH_FORMS: &[u8] =
+    b"BLAKE3 (y) = af1349b9f5f9a1a6a0404dea36dcc9499bcb25c9adc112b7cc9a93cae41f3262\r\n\
+      af1349b9f5f9a1a6a0404dea36dcc9499bcb25c9adc112b7cc9a93cae41f3262  y\n\
+      \\BLAKE3 (a\\\\b) = af1349b9f5f9a1a6a0404dea36dcc9499bcb25c9adc112b7cc9a93cae41f3262\n\
+      \\BLAKE3 (a\\\\b) = 2d3adedff11b61f14c886e35afa036736dcd87a74d27b5c1510225d0f592e213\n\
+      BLAKE3 (x) = 2d3adedff11b61f14c886e35afa036736dcd87a74d27b5c1510225d0f592e213\n\
+      BLAKE3 (z) = 2d3adedff11b61f14c886e35afa036736dcd87a74d27b5c1510225d0f592e213\n\
+      BLAKE3 (x] = 2d3adedff11b61f14c886e35afa036736dcd87a74d27b5c1510225d0f592e213\n\
+      BLAKE3 (\n";
+
+// Lists, what they count, and what is written of them: over a file x of one byte 00, and empty files y and a\b.
+const LISTS: [(&str, &[u8], [u64; 4], &[u8], &[u8]); 7] = [
+    (
+        "three lines",
+        THREE_LINES,
+        [1, 1, 0, 1],
+        THREE_VERDICTS,
+        THREE_COMPLAINTS,
+    ),
+    (
+        "both forms",
+        BOTH_FORMS,
+        [4, 1, 1, 2],
+        b"y: OK\ny: OK\n\\a\\\\b: OK\n\\a\\\\b: FAILED\nx: OK\nz: FAILED (cannot read)\n",
+        b"b3sum: line 7: missing spaces\n\
+          b3sum: line 8: short line\n\
+          b3sum: WARNING: 4 computed checksums did NOT match\n",
+    ),
+    (
+        "a name that is not there",
+        b"af1349b9f5f9a1a6a0404dea36dcc9499bcb25c9adc112b7cc9a93cae41f3262  z\n",
+        [0, 0, 1, 0],
+        b"z: FAILED (cannot read)\n",
+        b"b3sum: WARNING: 1 computed checksum did NOT match\n",
+    ),
+    ("no line", b"", [0, 0, 0, 0], b"", b""),
+    (
+        "an empty line",
+        b"\n",
+        [0, 0, 0, 1],
+        b"",
+        b"b3sum: line 1: empty line\nb3sum: WARNING: 1 computed checksum did NOT match\n",
+    ),
+    (
+        "no text",
+        b"\xFF\xFE\n",
+        [0, 0, 0, 1],
+        b"",
+        b"b3sum: line 1: not text\nb3sum: WARNING: 1 computed checksum did NOT match\n",
+    ),
+    (
+        "a name that is escaped",
+        b"\\af1349b9f5f9a1a6a0404dea36dcc9499bcb25c9adc112b7cc9a93cae41f3262  a\\\\b\n",
+        [1, 0, 0, 0],
+        b"\\a\\\\b: OK\n",
+        b"",
+    ),
+];
+
 #[test]
-fn right_and_wrong_and_malformed_lines(rt: HostRuntime) -> Result<(), Fail> {
-    for (quiet, written) in [(false, "x: OK\ny: FAILED\n"), (true, "y: FAILED\n")] {
-        let mut shelf = three_lines(rt.alloc())?;
-        let mut out = MemorySink::new(rt.alloc());
-        let mut err = MemorySink::new(rt.alloc());
-        let asked = check_options(quiet, 1_000);
-        let answer = check_one(&rt, rt.alloc(), &mut shelf, "l", &mut out, &mut err, &asked);
-        assert_eq!(rt; answer, Ok(lines_tally(1, 1, 0, 1)));
-        assert_eq!(rt; lines_tally(1, 1, 0, 1).status(), 1);
-        assert_eq!(rt; out.bytes(), written.as_bytes());
-        assert_eq!(rt; err.bytes(), THREE_COMPLAINTS);
+fn lists_and_what_is_written_of_them(rt: HostRuntime) -> Result<(), Fail> {
+    for (row, list, counts, out, err) in &LISTS {
+        let files = [
+            ("l", *list),
+            ("x", b"\0".as_slice()),
+            ("y", b""),
+            ("a\\b", b""),
+        ];
+        let ended = check_files(
+            &rt,
+            rt.alloc(),
+            &files,
+            &["l"],
+            &check_options(false, 1_000),
+        )?;
+        let [ok, differing, unreadable, malformed] = *counts;
+        let counts = lines_tally(ok, differing, unreadable, malformed);
+        ended.assert(&rt, row, Ok(counts), out, err);
+        assert_eq!(&rt; counts.status() == 0, err.is_empty(), "{row}");
     }
     Ok(())
 }
 
 #[test]
-fn an_output_that_fails_at_its_second_byte(rt: HostRuntime) -> Result<(), Fail> {
-    let mut shelf = three_lines(rt.alloc())?;
-    let mut out = OneByteSink::new(rt.alloc(), 1);
-    let mut err = MemorySink::new(rt.alloc());
-    let asked = check_options(false, 1_000);
-    let answer = check_one(&rt, rt.alloc(), &mut shelf, "l", &mut out, &mut err, &asked);
-    assert_eq!(rt; answer, Err(RunFault::WriteFault));
-    assert_eq!(rt; out.bytes.as_slice(), b"x".as_slice());
-    assert!(rt; err.bytes().is_empty());
-    Ok(())
-}
-
-#[test]
-fn lists_of_one_line_or_none(rt: HostRuntime) -> Result<(), Fail> {
-    let missing = joined(rt.alloc(), &[EMPTY, "  z\n"])?;
-    let escaped = joined(rt.alloc(), &["\\", EMPTY, "  a\\\\b\n"])?;
-    let warning = "b3sum: WARNING: 1 computed checksum did NOT match\n";
-    let table = [
-        (
-            missing.as_bytes(),
-            tally(0, 1, 0),
-            "z: FAILED (cannot read)\n",
-            "",
-        ),
-        (b"".as_slice(), tally(0, 0, 0), "", ""),
-        (
-            b"\n".as_slice(),
-            lines_tally(0, 0, 0, 1),
-            "",
-            "b3sum: line 1: empty line\n",
-        ),
-        (
-            b"\xFF\xFE\n".as_slice(),
-            lines_tally(0, 0, 0, 1),
-            "",
-            "b3sum: line 1: not text\n",
-        ),
-        (escaped.as_bytes(), tally(1, 0, 0), "\\a\\\\b: OK\n", ""),
-    ];
-    for (list, counts, written, complaint) in table {
-        let mut shelf = MemoryShelf::new(rt.alloc());
-        let mut out = MemorySink::new(rt.alloc());
-        let mut err = MemorySink::new(rt.alloc());
-        shelf.put("l", list)?;
-        shelf.put("a\\b", b"")?;
-        let asked = check_options(false, 1_000);
-        let answer = check_one(&rt, rt.alloc(), &mut shelf, "l", &mut out, &mut err, &asked);
-        assert_eq!(rt; answer, Ok(counts));
-        assert_eq!(rt; out.bytes(), written.as_bytes());
-        let warned = if counts.status() == 0 { "" } else { warning };
-        assert_eq!(rt;
-            err.bytes(),
-            joined(rt.alloc(), &[complaint, warned])?.as_bytes()
-        );
-    }
-    Ok(())
-}
-
-// Plain and tagged lines in one list.
-#[test]
-fn lines_of_both_forms(rt: HostRuntime) -> Result<(), Fail> {
-    let list = joined(
-        rt.alloc(),
-        &[
-            "BLAKE3 (e) = ",
-            EMPTY,
-            "\r\n",
-            EMPTY,
-            "  e\n\\BLAKE3 (a\\\\b) = ",
-            EMPTY,
-            "\n\\BLAKE3 (a\\\\b) = ",
-            ONE_BYTE,
-            "\nBLAKE3 (x) = ",
-            ONE_BYTE,
-            "\nBLAKE3 (z) = ",
-            ONE_BYTE,
-            "\nBLAKE3 (x] = ",
-            ONE_BYTE,
-            "\nBLAKE3 (\n",
-        ],
-    )?;
-    let mut shelf = MemoryShelf::new(rt.alloc());
-    let mut out = MemorySink::new(rt.alloc());
-    let mut err = MemorySink::new(rt.alloc());
-    shelf.put("l", list.as_bytes())?;
-    shelf.put("a\\b", b"")?;
-    shelf.put("e", b"")?;
-    shelf.put("x", b"\0")?;
-    let asked = check_options(false, 1_000);
-    let answer = check_one(&rt, rt.alloc(), &mut shelf, "l", &mut out, &mut err, &asked);
-    assert_eq!(rt; answer, Ok(lines_tally(4, 1, 1, 2)));
-    let written = "e: OK\ne: OK\n\\a\\\\b: OK\n\\a\\\\b: FAILED\nx: OK\nz: FAILED (cannot read)\n";
-    assert_eq!(rt; out.bytes(), written.as_bytes());
-    let complaints = [
-        "b3sum: line 7: missing spaces\n",
-        "b3sum: line 8: short line\n",
-        "b3sum: WARNING: 4 computed checksums did NOT match\n",
-    ];
-    assert_eq!(rt; err.bytes(), joined(rt.alloc(), &complaints)?.as_bytes());
+fn quiet_leaves_out_what_is_right(rt: HostRuntime) -> Result<(), Fail> {
+    let files = [("l", THREE_LINES), ("x", b"\0"), ("y", b"")];
+    let ended = check_files(&rt, rt.alloc(), &files, &["l"], &check_options(true, 1_000))?;
+    let counts = lines_tally(1, 1, 0, 1);
+    ended.assert(&rt, "quiet", Ok(counts), b"y: FAILED\n", THREE_COMPLAINTS);
     Ok(())
 }
 
@@ -176,75 +117,58 @@ fn lines_of_both_forms(rt: HostRuntime) -> Result<(), Fail> {
 // the warning comes after the last list.
 #[test]
 fn lists_one_after_the_other(rt: HostRuntime) -> Result<(), Fail> {
-    let mut shelf = MemoryShelf::new(rt.alloc());
-    let mut out = MemorySink::new(rt.alloc());
-    let mut err = MemorySink::new(rt.alloc());
-    shelf.put("m", b"\n\n")?;
-    shelf.put("n", joined(rt.alloc(), &["\n", EMPTY, "  e"])?.as_bytes())?;
-    shelf.put("e", b"")?;
-    let lists = [
-        String::from_str(rt.alloc(), "m")?,
-        String::from_str(rt.alloc(), "none\n")?,
-        String::from_str(rt.alloc(), "n")?,
+    let last = joined(rt.alloc(), &["\n", EMPTY, "  e"])?;
+    let files = [
+        ("m", b"\n\n".as_slice()),
+        ("n", last.as_bytes()),
+        ("e", b""),
     ];
-    let asked = check_options(false, 1_000);
-    let answer = run_check(
+    let lists = ["m", "none\n", "n"];
+    let ended = check_files(
         &rt,
         rt.alloc(),
-        &mut shelf,
+        &files,
         &lists,
-        &mut out,
-        &mut err,
-        &asked,
-        &OpenGate,
-    );
+        &check_options(false, 1_000),
+    )?;
     let counts = Tally {
         lists: 1,
         ..lines_tally(1, 0, 0, 3)
     };
-    assert_eq!(rt; answer, Ok(counts));
-    assert_eq!(rt; out.bytes(), b"e: OK\n".as_slice());
-    let complaints = [
-        "b3sum: line 1: empty line\n",
-        "b3sum: line 2: empty line\n",
-        "b3sum: \\none\\n: cannot read\n",
-        "b3sum: line 1: empty line\n",
-        "b3sum: WARNING: 3 computed checksums did NOT match\n",
-    ];
-    assert_eq!(rt; err.bytes(), joined(rt.alloc(), &complaints)?.as_bytes());
+    let complaints = b"b3sum: line 1: empty line\n\
+        b3sum: line 2: empty line\n\
+        b3sum: \\none\\n: cannot read\n\
+        b3sum: line 1: empty line\n\
+        b3sum: WARNING: 3 computed checksums did NOT match\n";
+    ended.assert(&rt, "three lists", Ok(counts), b"e: OK\n", complaints);
     Ok(())
 }
 
 #[test]
-fn a_list_may_have_as_many_bytes_as_a_file(rt: HostRuntime) -> Result<(), Fail> {
-    for (feeds, expected) in [
+fn a_list_may_have_so_many_bytes(rt: HostRuntime) -> Result<(), Fail> {
+    let feeds = vec![in rt.alloc(); b'\n'; 101]?;
+    for (len, expected) in [
         (100usize, Ok(lines_tally(0, 0, 0, 100))),
         (101, Err(RunFault::EndlessInput)),
     ] {
-        let mut shelf = MemoryShelf::new(rt.alloc());
-        let mut out = MemorySink::new(rt.alloc());
-        let mut err = MemorySink::new(rt.alloc());
-        shelf.put("l", vec![in rt.alloc(); b'\n'; feeds]?.as_slice())?;
-        let asked = check_options(false, 100);
-        let answer = check_one(&rt, rt.alloc(), &mut shelf, "l", &mut out, &mut err, &asked);
-        assert_eq!(rt; answer, expected);
-        assert_eq!(rt; err.bytes().is_empty(), feeds == 101);
-        assert!(rt; out.bytes().is_empty());
+        let files = [("l", &feeds[..len])];
+        let ended = check_files(&rt, rt.alloc(), &files, &["l"], &check_options(false, 100))?;
+        assert_eq!(&rt; ended.answer, expected, "{len} bytes");
+        assert_eq!(&rt; ended.err.is_empty(), len == 101, "{len} bytes");
+        assert!(&rt; ended.out.is_empty(), "{len} bytes");
     }
     Ok(())
 }
 
+// It gives a byte a read, and has more bytes than a file may take reads.
 #[test]
 fn a_list_that_has_no_end(rt: HostRuntime) -> Result<(), Fail> {
-    let endless = vec![in rt.alloc(); b'\n'; 2_000]?;
-    let mut shelf = OneByteShelf::new(endless.as_slice());
-    let mut out = MemorySink::new(rt.alloc());
-    let mut err = MemorySink::new(rt.alloc());
+    let alloc = rt.alloc();
+    let files = [file_of(alloc, "l", pattern(alloc, 2_000)?.as_slice())?];
+    let mut shelf = RecordedFiles::new(alloc, &files, 1, u64::MAX);
     let asked = check_options(false, 10_000);
-    let answer = check_one(&rt, rt.alloc(), &mut shelf, "l", &mut out, &mut err, &asked);
-    assert_eq!(rt; answer, Err(RunFault::EndlessInput));
-    assert!(rt; out.bytes().is_empty());
-    assert!(rt; err.bytes().is_empty());
+    let ended = check(&rt, alloc, &mut shelf, &["l"], &asked, &OpenGate)?;
+    ended.assert(&rt, "2,000 reads", Err(RunFault::EndlessInput), b"", b"");
     Ok(())
 }
 

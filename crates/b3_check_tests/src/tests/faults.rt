@@ -1,20 +1,45 @@
 // Lists over devices that fail at one call, and lists that are cut off.
 
-ghost use Rattle.std.specs.Prelude.{◌≡◌, ◌≤◌, IfOk};
-
-use crate::tests::checks::{THREE_COMPLAINTS, check_one, three_lines};
-use crate::tests::devices::OneByteSink;
-use crate::tests::faulty_files::FaultyFiles;
+use crate::tests::checks::{THREE_COMPLAINTS, THREE_LINES, THREE_VERDICTS};
+use crate::tests::ended::{Ended, check_files, check_into};
+use crate::tests::recording::{PieceSink, RecordedFiles, file_of};
 use crate::tests::{EMPTY, ONE_BYTE, check_options, joined, lines_tally, tally};
-use b3_check::{MemoryShelf, MemorySink, RunFault, Tally};
+use b3_board::OpenGate;
+use b3_check::{RunFault, Tally};
 use std::process::Abort;
 use std::sync::Wait;
 use std::test::Fail;
 use std::thread::Threads;
 
-const THREE_LINES: &[u8] = b"x: OK\ny: FAILED\n";
-
 const ONE_WARNING: &str = "b3sum: WARNING: 1 computed checksum did NOT match\n";
+
+// Checks the list of three lines. The call of the shelf after so many fails, and so does the write of each sink.
+fn three_lines<R: AllocGlobal + Abort + Threads + Wait + Sync>(
+    rt: &R,
+    calls_before: u64,
+    out_before: u64,
+    err_before: u64,
+) -> Result<Ended, Fail> {
+    let alloc = rt.alloc();
+    let files = [
+        file_of(alloc, "l", THREE_LINES)?,
+        file_of(alloc, "x", b"\0")?,
+        file_of(alloc, "y", b"")?,
+    ];
+    let mut shelf = RecordedFiles::new(alloc, &files, usize::MAX, calls_before);
+    let mut out = PieceSink::new(alloc, 1, out_before);
+    let mut err = PieceSink::new(alloc, 1, err_before);
+    let lists = [String::from_str(alloc, "l")?];
+    let asked = check_options(false, 1_000);
+    let answer = check_into(
+        rt, alloc, &mut shelf, &lists, &mut out, &mut err, &asked, &OpenGate,
+    );
+    Ok(Ended {
+        answer,
+        out: out.bytes,
+        err: err.bytes,
+    })
+}
 
 // What is left of the check of three lines where call k of eight fails: three for the list, three for its first
 // file, two for its second.
@@ -31,91 +56,61 @@ fn left_after(k: u64) -> (Tally, &'static [u8], &'static [u8]) {
             b"x: OK\ny: FAILED (cannot read)\n",
             THREE_COMPLAINTS,
         ),
-        _ => (lines_tally(1, 1, 0, 1), THREE_LINES, THREE_COMPLAINTS),
+        _ => (lines_tally(1, 1, 0, 1), THREE_VERDICTS, THREE_COMPLAINTS),
     }
 }
 
 #[test]
 fn a_shelf_that_fails_at_each_call_in_turn(rt: HostRuntime) -> Result<(), Fail> {
     for k in 1..12 {
-        let mut shelf = FaultyFiles::new(three_lines(rt.alloc())?, k - 1);
-        let mut out = MemorySink::new(rt.alloc());
-        let mut err = MemorySink::new(rt.alloc());
-        let asked = check_options(false, 1_000);
-        let answer = check_one(&rt, rt.alloc(), &mut shelf, "l", &mut out, &mut err, &asked);
-        let (counts, written, complaints) = left_after(k);
-        assert_eq!(rt; answer, Ok(counts));
-        assert_eq!(rt; out.bytes(), written);
-        assert_eq!(rt; err.bytes(), complaints);
+        let ended = three_lines(&rt, k - 1, u64::MAX, u64::MAX)?;
+        let (counts, out, err) = left_after(k);
+        ended.assert(&rt, "three lines", Ok(counts), out, err);
     }
     Ok(())
 }
 
+// The complaints come after the verdicts.
 #[test]
-fn an_output_that_fails_at_each_byte_in_turn(rt: HostRuntime) -> Result<(), Fail> {
-    for taken in 0..THREE_LINES.len() + 1 {
-        let mut shelf = three_lines(rt.alloc())?;
-        let mut out = OneByteSink::new(rt.alloc(), taken);
-        let mut err = MemorySink::new(rt.alloc());
-        let asked = check_options(false, 1_000);
-        let answer = check_one(&rt, rt.alloc(), &mut shelf, "l", &mut out, &mut err, &asked);
-        let expected = if taken < 16 {
-            Err(RunFault::WriteFault)
-        } else {
-            Ok(lines_tally(1, 1, 0, 1))
-        };
-        assert_eq!(rt; answer, expected);
-        assert_eq!(rt; out.bytes.as_slice(), &THREE_LINES[..taken]);
+fn a_sink_that_fails_at_each_byte_in_turn(rt: HostRuntime) -> Result<(), Fail> {
+    for taken in 0..THREE_VERDICTS.len() {
+        let ended = three_lines(&rt, u64::MAX, taken as u64, u64::MAX)?;
+        let fault = Err(RunFault::WriteFault);
+        ended.assert(&rt, "the output", fault, &THREE_VERDICTS[..taken], b"");
     }
-    Ok(())
-}
-
-#[test]
-fn an_error_output_that_fails_at_each_byte_in_turn(rt: HostRuntime) -> Result<(), Fail> {
-    for taken in 0..THREE_COMPLAINTS.len() + 1 {
-        let mut shelf = three_lines(rt.alloc())?;
-        let mut out = MemorySink::new(rt.alloc());
-        let mut err = OneByteSink::new(rt.alloc(), taken);
-        let asked = check_options(false, 1_000);
-        let answer = check_one(&rt, rt.alloc(), &mut shelf, "l", &mut out, &mut err, &asked);
-        let expected = if taken < 77 {
-            Err(RunFault::WriteFault)
-        } else {
-            Ok(lines_tally(1, 1, 0, 1))
-        };
-        assert_eq!(rt; answer, expected);
-        assert_eq!(rt; err.bytes.as_slice(), &THREE_COMPLAINTS[..taken]);
-        assert_eq!(rt; out.bytes(), THREE_LINES);
+    for taken in 0..THREE_COMPLAINTS.len() {
+        let ended = three_lines(&rt, u64::MAX, u64::MAX, taken as u64)?;
+        let fault = Err(RunFault::WriteFault);
+        ended.assert(
+            &rt,
+            "the errors",
+            fault,
+            THREE_VERDICTS,
+            &THREE_COMPLAINTS[..taken],
+        );
     }
+    let ended = three_lines(&rt, u64::MAX, 16, 77)?;
+    let counts = Ok(lines_tally(1, 1, 0, 1));
+    ended.assert(&rt, "no fault", counts, THREE_VERDICTS, THREE_COMPLAINTS);
     Ok(())
 }
 
 // Checks a list of the first bytes of a line, and compares what is said of it.
 fn compare_cut<R: AllocGlobal + Abort + Threads + Wait + Sync>(
     rt: &R,
-    line: &[u8],
-    k: usize,
-    written: &str,
+    list: &[u8],
+    verdict: &str,
     complaint: &str,
 ) -> Result<(), Fail> {
-    let mut shelf = MemoryShelf::new(rt.alloc());
-    let mut out = MemorySink::new(rt.alloc());
-    let mut err = MemorySink::new(rt.alloc());
-    shelf.put("l", &line[..k.min(line.len())])?;
-    shelf.put("x", b"\0")?;
-    shelf.put("a\\b\nc", b"")?;
-    let asked = check_options(false, 1_000);
-    check_one(rt, rt.alloc(), &mut shelf, "l", &mut out, &mut err, &asked)?;
-    assert_eq!(rt; out.bytes(), written.as_bytes());
-    let warning = if err.bytes().is_empty() {
-        ""
-    } else {
-        ONE_WARNING
-    };
-    assert_eq!(rt;
-        err.bytes(),
-        joined(rt.alloc(), &[complaint, warning])?.as_bytes()
-    );
+    let files = [("l", list), ("x", b"\0".as_slice()), ("a\\b\nc", b"")];
+    let ended = check_files(rt, rt.alloc(), &files, &["l"], &check_options(false, 1_000))?;
+    let is_good = verdict.ends_with("OK\n") || list.is_empty();
+    let err = joined(
+        rt.alloc(),
+        &[complaint, if is_good { "" } else { ONE_WARNING }],
+    )?;
+    assert_eq!(rt; ended.out.as_slice(), verdict.as_bytes());
+    assert_eq!(rt; ended.err.as_slice(), err.as_bytes());
     Ok(())
 }
 
@@ -124,13 +119,13 @@ fn a_plain_line_cut_at_each_byte(rt: HostRuntime) -> Result<(), Fail> {
     let line = joined(rt.alloc(), &[ONE_BYTE, "  x\n"])?;
     assert_eq!(rt; line.len(), 68);
     for k in 0..line.len() + 1 {
-        let (written, complaint) = match k {
+        let (verdict, complaint) = match k {
             0 => ("", ""),
             1..=65 => ("", "b3sum: line 1: short line\n"),
             66 => ("", "b3sum: line 1: no name\n"),
             _ => ("x: OK\n", ""),
         };
-        compare_cut(&rt, line.as_bytes(), k, written, complaint)?;
+        compare_cut(&rt, &line.as_bytes()[..k], verdict, complaint)?;
     }
     Ok(())
 }
@@ -140,7 +135,7 @@ fn a_marked_line_cut_at_each_byte(rt: HostRuntime) -> Result<(), Fail> {
     let line = joined(rt.alloc(), &["\\", EMPTY, "  a\\\\b\\nc\n"])?;
     assert_eq!(rt; line.len(), 75);
     for k in 1..line.len() + 1 {
-        let (written, complaint) = match k {
+        let (verdict, complaint) = match k {
             1..=66 => ("", "b3sum: line 1: short line\n"),
             67 => ("", "b3sum: line 1: no name\n"),
             69 | 72 => ("", "b3sum: line 1: bad escape\n"),
@@ -150,7 +145,7 @@ fn a_marked_line_cut_at_each_byte(rt: HostRuntime) -> Result<(), Fail> {
             73 => ("\\a\\\\b\\n: FAILED (cannot read)\n", ""),
             _ => ("\\a\\\\b\\nc: OK\n", ""),
         };
-        compare_cut(&rt, line.as_bytes(), k, written, complaint)?;
+        compare_cut(&rt, &line.as_bytes()[..k], verdict, complaint)?;
     }
     Ok(())
 }

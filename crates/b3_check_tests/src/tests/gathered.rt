@@ -1,12 +1,11 @@
 // Lines that wait for those that come soon after them, and when they are written.
 
-ghost use Rattle.std.specs.Prelude.{◌≡◌, ◌^◌, ◌<◌, ◌≤◌, [], None, Some, false, true, length};
+ghost use Rattle.std.specs.Prelude.{◌≡◌, ◌^◌, ◌<◌, [], None, Some, false, true};
 
+use crate::tests::ended::{check_into, sum_into};
 use crate::tests::{EMPTY, check_options, joined, options, tally};
 use b3_board::OpenGate;
-use b3_check::{
-    CannotRead, NoContent, RunFault, Shelf, Sink, SinkFailed, Tally, run_check, run_sum,
-};
+use b3_check::{CannotRead, NoContent, RunFault, Shelf, Sink, SinkFailed, Tally};
 use b3_hash::Hasher;
 use std::alloc::Global;
 use std::process::Abort;
@@ -133,7 +132,7 @@ fn names(alloc: Global, count: u64) -> Result<Vec<String>, Fail> {
 }
 
 // The run over names, by two workers.
-fn summed<R: Threads + Wait + Sync>(
+fn summed<R: Abort + Threads + Wait + Sync>(
     rt: &R,
     alloc: Global,
     names: &[String],
@@ -141,13 +140,12 @@ fn summed<R: Threads + Wait + Sync>(
     out: &mut PatientSink<'_>,
     err: &mut PatientSink<'_>,
 ) -> Result<Tally, RunFault>
-    requires names { length names.now ≤ 2 ^ 30 }
     requires out { out.old.failures < 2 ^ 63 }
     requires err { err.old.failures < 2 ^ 63 }
 {
     let mut asked = options(2, 0);
     asked.workers = 2;
-    run_sum(rt, alloc, shelf, names, out, err, &asked, &OpenGate)
+    sum_into(rt, alloc, shelf, names, out, err, &asked, &OpenGate)
 }
 
 // The lines of 1,000 names go in as many writes as there are rounds, of 64, 128, 256, 512 names and the rest; or each
@@ -165,7 +163,6 @@ fn assert_writes<R: Abort + Threads + Wait + Sync>(
     let mut out = PatientSink::new(alloc, may_wait, &written);
     let mut err = PatientSink::new(alloc, may_wait, &written);
     let names = names(alloc, 1_000)?;
-    assert!(rt; names.len() <= 1_000);
     let answer = summed(rt, alloc, &names, &mut shelf, &mut out, &mut err);
     assert_eq!(rt; answer, Ok(tally(1_000, 0, 0)));
     assert_eq!(rt; out.bytes.as_slice(), lines.as_bytes());
@@ -176,7 +173,7 @@ fn assert_writes<R: Abort + Threads + Wait + Sync>(
     let mut err = PatientSink::new(alloc, may_wait, &written);
     let mut asked = check_options(false, 100_000);
     asked.workers = 2;
-    let answer = run_check(
+    let answer = check_into(
         rt, alloc, &mut shelf, &lists, &mut out, &mut err, &asked, &OpenGate,
     );
     let verdicts = repeated(alloc, 1_000, "a: OK\n")?;
@@ -212,7 +209,6 @@ fn lines_before_a_slow_name_are_written(rt: HostRuntime) -> Result<(), Fail> {
     for name in ["a", "a", "a", "slow", "a", "a", "a"] {
         names.push(String::from_str(alloc, name)?)?;
     }
-    assert!(&rt; names.len() <= 7);
     let answer = summed(&rt, alloc, &names, &mut shelf, &mut out, &mut err);
     let all = joined(alloc, &[three.as_str(), slow.as_str(), three.as_str()])?;
     assert_eq!(rt; answer, Ok(tally(7, 0, 0)));
@@ -228,7 +224,6 @@ fn any_write_of_lines_fails(rt: HostRuntime) -> Result<(), Fail> {
     let alloc = rt.alloc();
     let line = joined(alloc, &[EMPTY, "  a\n"])?;
     let names = names(alloc, 300)?;
-    assert!(&rt; names.len() <= 300);
     for (writes_before, count) in [(0, 0), (1, 64), (2, 192), (3, 300)] {
         let written = AtomicU64::new(0);
         let mut shelf = EmptyFiles::new(b"", &written);

@@ -1,13 +1,14 @@
-// Names of a shelf that lets nobody peek: each is begun once, in its turn, behind every gate.
+// Names of a shelf that lets nobody peek: each is begun once, in its turn, behind either gate. Names that may be
+// peeked: what is written is the same, and those alone are begun that cannot be.
 
-ghost use Rattle.std.specs.Prelude.{◌≡◌, ◌^◌, ◌≤◌, length};
-
-use crate::tests::devices::OneByteSink;
+use crate::tests::contents::pattern;
+use crate::tests::ended::{check, sum_into};
 use crate::tests::lettered_files::{LetteredFiles, number_in};
-use crate::tests::workers::Yielding;
-use crate::tests::{check_options, lines_tally, options, pattern, tally};
+use crate::tests::meeting::Yielding;
+use crate::tests::recording::PieceSink;
+use crate::tests::{check_options, lines_tally, options, tally};
 use b3_board::{Gate, OpenGate};
-use b3_check::{MemorySink, RunFault, Tally, run_check, run_sum};
+use b3_check::{MemorySink, RunFault, Tally};
 use b3_hash::hash;
 use b3_lines::write_line;
 use std::alloc::Global;
@@ -16,7 +17,7 @@ use std::sync::Wait;
 use std::test::Fail;
 use std::thread::Threads;
 
-// Names in no order, of files of 1 to 3,000 bytes: one in eight is not there, and one in eight fails.
+// Names in no order, of files of 1 to 3,000 bytes: two in sixteen are not there, and two fail.
 fn names(alloc: Global, count: usize) -> Result<Vec<String>, Fail> {
     let mut names = Vec::new(alloc);
     let mut state = 1u64;
@@ -37,14 +38,16 @@ fn names(alloc: Global, count: usize) -> Result<Vec<String>, Fail> {
     Ok(names)
 }
 
-// These names, as they are to be begun.
-fn in_order(alloc: Global, names: &[String]) -> Result<Vec<u8>, Fail> {
-    let mut order = Vec::new(alloc);
+// These names as they are begun, but for those that are peeked.
+fn begun_of(alloc: Global, names: &[String], is_peeked: bool) -> Result<Vec<u8>, Fail> {
+    let mut begun = Vec::new(alloc);
     for name in names {
-        order.extend_from_slice(name.as_bytes())?;
-        order.push(b'\n')?;
+        if !is_peeked || !name.as_str().starts_with("g") {
+            begun.extend_from_slice(name.as_bytes())?;
+            begun.push(b'\n')?;
+        }
     }
-    Ok(order)
+    Ok(begun)
 }
 
 /// What is said of names, one after the other.
@@ -80,72 +83,87 @@ fn said_of(alloc: Global, content: &[u8], names: &[String]) -> Result<Expected, 
     Ok(said)
 }
 
-// The names are begun once each, in order; the texts are those of one name after the other.
+// Sums a thousand names. The texts are those of one name after the other; each name is begun that is not peeked.
 fn assert_thousand<R: Abort + Threads + Wait + Sync, G: Gate + Sync>(
     rt: &R,
     alloc: Global,
+    workers: u32,
     gate: &G,
+    is_open: bool,
+    is_peeked: bool,
 ) -> Result<(), Fail> {
     let content = pattern(alloc, 3_000)?;
     let names = names(alloc, 1_000)?;
-    assert!(rt; names.len() == 1_000);
     let said = said_of(alloc, content.as_slice(), &names)?;
-    let mut shelf = LetteredFiles::new(alloc, content.as_slice(), b"", 700);
+    let mut shelf = LetteredFiles::new(alloc, content.as_slice(), b"", 700, is_open);
     let mut out = MemorySink::new(alloc);
     let mut err = MemorySink::new(alloc);
     let mut asked = options(6, 0);
-    asked.workers = 1;
-    let answer = run_sum(
+    asked.workers = workers;
+    let answer = sum_into(
         rt, alloc, &mut shelf, &names, &mut out, &mut err, &asked, gate,
     );
     assert_eq!(rt; answer, Ok(tally(said.ok, said.failed, 0)));
     assert_eq!(rt; out.bytes(), said.out.as_slice());
     assert_eq!(rt; err.bytes(), said.err.as_slice());
-    assert_eq!(rt; shelf.begun(), in_order(alloc, &names)?.as_slice());
+    assert_eq!(rt;
+        shelf.begun(),
+        begun_of(alloc, &names, is_peeked)?.as_slice()
+    );
     assert_eq!(rt; shelf.failures(), said.failed);
     Ok(())
 }
 
 #[test]
-fn a_thousand_names_behind_a_gate_that_may_hold(rt: HostRuntime) -> Result<(), Fail> {
-    assert_thousand(&rt, rt.alloc(), &Yielding)
+fn a_thousand_names_that_may_not_be_peeked(rt: HostRuntime) -> Result<(), Fail> {
+    assert_thousand(&rt, rt.alloc(), 1, &Yielding, false, false)?;
+    assert_thousand(&rt, rt.alloc(), 1, &OpenGate, false, false)?;
+    assert_thousand(&rt, rt.alloc(), 4, &OpenGate, false, false)
 }
 
+// One worker peeks at nothing, and nor do those whom a gate may hold.
 #[test]
-fn a_thousand_names_behind_an_open_gate(rt: HostRuntime) -> Result<(), Fail> {
-    assert_thousand(&rt, rt.alloc(), &OpenGate)
+fn a_thousand_names_that_are_peeked(rt: HostRuntime) -> Result<(), Fail> {
+    assert_thousand(&rt, rt.alloc(), 1, &OpenGate, true, false)?;
+    assert_thousand(&rt, rt.alloc(), 4, &Yielding, true, false)?;
+    assert_thousand(&rt, rt.alloc(), 4, &OpenGate, true, true)
 }
 
-// Sums names of the same shelf, and answers what was begun, and what was written.
-fn sum<R: Abort + Threads + Wait + Sync, G: Gate + Sync>(
+// What a run over a few names answered, wrote and began.
+#[derive(Drop)]
+struct Came {
+    answer: Result<Tally, RunFault>,
+    out: Vec<u8>,
+    begun: Vec<u8>,
+    failures: u64,
+}
+
+// Sums names of the same shelf. The output takes so many bytes.
+fn sum_few<R: Abort + Threads + Wait + Sync, G: Gate + Sync>(
     rt: &R,
     alloc: Global,
     names: &[&str],
     most: usize,
     gate: &G,
-) -> Result<(Result<Tally, RunFault>, Vec<u8>, Vec<u8>, u64), Fail> {
+) -> Result<Came, Fail> {
     let content = pattern(alloc, 5_000)?;
     let mut asked = Vec::new(alloc);
     for name in names {
         asked.push(String::from_str(alloc, name)?)?;
     }
-    assert!(rt; asked.len() <= 10);
-    let mut shelf = LetteredFiles::new(alloc, content.as_slice(), b"", 1_000);
-    let mut out = OneByteSink::new(alloc, most);
+    let mut shelf = LetteredFiles::new(alloc, content.as_slice(), b"", 1_000, false);
+    let mut out = PieceSink::new(alloc, 1, most as u64);
     let mut err = MemorySink::new(alloc);
-    let answer = run_sum(
-        rt,
-        alloc,
-        &mut shelf,
-        &asked,
-        &mut out,
-        &mut err,
-        &options(4, 0),
-        gate,
+    let limits = options(4, 0);
+    let answer = sum_into(
+        rt, alloc, &mut shelf, &asked, &mut out, &mut err, &limits, gate,
     );
-    let begun = Vec::from_slice(alloc, shelf.begun())?;
-    let written = Vec::from_slice(alloc, out.bytes.as_slice())?;
-    Ok((answer, begun, written, shelf.failures()))
+    Ok(Came {
+        answer,
+        begun: Vec::from_slice(alloc, shelf.begun())?,
+        out: out.bytes,
+        failures: shelf.failures(),
+    })
 }
 
 // The line of a file of so many bytes.
@@ -158,62 +176,50 @@ fn line_of(alloc: Global, name: &str) -> Result<Vec<u8>, Fail> {
 
 #[test]
 fn a_name_asked_twice_in_a_row_is_begun_twice(rt: HostRuntime) -> Result<(), Fail> {
+    let mut lines = line_of(rt.alloc(), "g7")?;
     let line = line_of(rt.alloc(), "g7")?;
-    let (answer, begun, written, _) = sum(&rt, rt.alloc(), &["g7", "g7"], 1_000, &Yielding)?;
-    assert_eq!(&rt; answer, Ok(tally(2, 0, 0)));
-    assert_eq!(&rt; begun.as_slice(), b"g7\ng7\n".as_slice());
-    let mut lines = Vec::from_slice(rt.alloc(), line.as_slice())?;
     lines.extend_from_slice(line.as_slice())?;
-    assert_eq!(&rt; written.as_slice(), lines.as_slice());
+    let came = sum_few(&rt, rt.alloc(), &["g7", "g7"], 1_000, &Yielding)?;
+    assert_eq!(&rt; came.answer, Ok(tally(2, 0, 0)));
+    assert_eq!(&rt; came.begun.as_slice(), b"g7\ng7\n".as_slice());
+    assert_eq!(&rt; came.out.as_slice(), lines.as_slice());
     Ok(())
 }
 
 // The write of the first line fails: no name after it is begun.
-#[test]
-fn a_write_that_fails_ends_the_run(rt: HostRuntime) -> Result<(), Fail> {
-    let line = line_of(rt.alloc(), "g7")?;
+fn assert_cut<R: Abort + Threads + Wait + Sync, G: Gate + Sync>(
+    rt: &R,
+    alloc: Global,
+    gate: &G,
+) -> Result<(), Fail> {
+    let line = line_of(alloc, "g3000")?;
     for taken in 0..line.len() {
-        let (answer, begun, written, failures) = sum(
-            &rt,
-            rt.alloc(),
-            &["g7", "m1", "g1"],
-            taken,
-            &Yielding,
-        )?;
-        assert_eq!(&rt; answer, Err(RunFault::WriteFault));
-        assert_eq!(&rt; begun.as_slice(), b"g7\n".as_slice());
-        assert_eq!(&rt; written.as_slice(), &line.as_slice()[..taken]);
-        assert_eq!(&rt; failures, 0);
+        let came = sum_few(rt, alloc, &["g3000", "m1", "g1"], taken, gate)?;
+        assert_eq!(rt; came.answer, Err(RunFault::WriteFault));
+        assert_eq!(rt; came.begun.as_slice(), b"g3000\n".as_slice());
+        assert_eq!(rt; came.out.as_slice(), &line.as_slice()[..taken]);
+        assert_eq!(rt; came.failures, 0);
     }
     Ok(())
 }
 
-// The same behind an open gate.
 #[test]
-fn a_write_that_fails_behind_an_open_gate(rt: HostRuntime) -> Result<(), Fail> {
-    let (answer, begun, _, failures) = sum(&rt, rt.alloc(), &["g3000", "m1"], 0, &OpenGate)?;
-    assert_eq!(&rt; answer, Err(RunFault::WriteFault));
-    assert_eq!(&rt; begun.as_slice(), b"g3000\n".as_slice());
-    assert_eq!(&rt; failures, 0);
-    Ok(())
+fn a_write_that_fails_ends_the_run(rt: HostRuntime) -> Result<(), Fail> {
+    assert_cut(&rt, rt.alloc(), &Yielding)?;
+    assert_cut(&rt, rt.alloc(), &OpenGate)
 }
 
 // Four reads, of which the last one finds the end, are too few for the second file. Its fault comes after
 // the first line.
 #[test]
-fn a_fault_comes_behind_the_line(rt: HostRuntime) -> Result<(), Fail> {
+fn a_fault_comes_after_the_line(rt: HostRuntime) -> Result<(), Fail> {
     let line = line_of(rt.alloc(), "g3000")?;
-    let (answer, begun, written, failures) = sum(
-        &rt,
-        rt.alloc(),
-        &["g3000", "g3001", "m1"],
-        1_000,
-        &Yielding,
-    )?;
-    assert_eq!(&rt; answer, Err(RunFault::EndlessInput));
-    assert_eq!(&rt; begun.as_slice(), b"g3000\ng3001\n".as_slice());
-    assert_eq!(&rt; written.as_slice(), line.as_slice());
-    assert_eq!(&rt; failures, 0);
+    let names = ["g3000", "g3001", "m1"];
+    let came = sum_few(&rt, rt.alloc(), &names, 1_000, &Yielding)?;
+    assert_eq!(&rt; came.answer, Err(RunFault::EndlessInput));
+    assert_eq!(&rt; came.begun.as_slice(), b"g3000\ng3001\n".as_slice());
+    assert_eq!(&rt; came.out.as_slice(), line.as_slice());
+    assert_eq!(&rt; came.failures, 0);
     Ok(())
 }
 
@@ -239,50 +245,18 @@ fn a_list_of_names(rt: HostRuntime) -> Result<(), Fail> {
         }
     }
     let said = said_of(alloc, content.as_slice(), &names)?;
-    let mut shelf = LetteredFiles::new(alloc, content.as_slice(), list.as_slice(), 700);
-    let mut out = MemorySink::new(alloc);
-    let mut err = MemorySink::new(alloc);
-    let lists = [String::from_str(alloc, "l")?];
-    let answer = run_check(
+    let mut shelf = LetteredFiles::new(alloc, content.as_slice(), list.as_slice(), 700, false);
+    let ended = check(
         &rt,
         alloc,
         &mut shelf,
-        &lists,
-        &mut out,
-        &mut err,
+        &["l"],
         &check_options(false, 20_000),
         &Yielding,
-    );
-    assert_eq!(&rt; answer, Ok(lines_tally(said.ok, 0, said.failed, 200)));
-    assert_eq!(&rt; out.bytes(), verdicts.as_slice());
-    assert_eq!(&rt; shelf.failures(), said.failed);
-    Ok(())
-}
-
-// The same where each file may be peeked: what is written does not tell it, and only those are begun that cannot be.
-#[test]
-fn a_thousand_names_that_are_peeked(rt: HostRuntime) -> Result<(), Fail> {
-    let alloc = rt.alloc();
-    let content = pattern(alloc, 3_000)?;
-    let names = names(alloc, 1_000)?;
-    assert!(&rt; names.len() == 1_000);
-    let said = said_of(alloc, content.as_slice(), &names)?;
-    let mut shelf = LetteredFiles::open(alloc, content.as_slice(), b"");
-    let mut out = MemorySink::new(alloc);
-    let mut err = MemorySink::new(alloc);
-    let answer = run_sum(
-        &rt,
-        alloc,
-        &mut shelf,
-        &names,
-        &mut out,
-        &mut err,
-        &options(6, 0),
-        &OpenGate,
-    );
-    assert_eq!(&rt; answer, Ok(tally(said.ok, said.failed, 0)));
-    assert_eq!(&rt; out.bytes(), said.out.as_slice());
-    assert_eq!(&rt; err.bytes(), said.err.as_slice());
+    )?;
+    let counts = lines_tally(said.ok, 0, said.failed, 200);
+    assert_eq!(&rt; ended.answer, Ok(counts));
+    assert_eq!(&rt; ended.out.as_slice(), verdicts.as_slice());
     assert_eq!(&rt; shelf.failures(), said.failed);
     Ok(())
 }

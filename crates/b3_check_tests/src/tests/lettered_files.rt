@@ -6,8 +6,8 @@ use b3_check::{CannotRead, NoContent, Shelf};
 use b3_hash::Hasher;
 use std::alloc::Global;
 
-/// A name is a letter and a number of bytes: `g` is a file of so many bytes of the content, `f` one that fails
-/// at its second read, and `m` is not there. The name `l` has the list.
+/// A name is a letter and a number of bytes: `g` is a file of so many bytes of the content, `f` one of as many that
+/// fails at its second read, and `m` is not there. The name `l` has the list.
 #[derive(Drop)]
 pub struct LetteredFiles<'a> {
     content: &'a [u8],
@@ -25,7 +25,13 @@ pub struct LetteredFiles<'a> {
 }
 
 impl<'a> LetteredFiles<'a> {
-    pub fn new(alloc: Global, content: &'a [u8], list: &'a [u8], most: usize) -> LetteredFiles<'a>
+    pub fn new(
+        alloc: Global,
+        content: &'a [u8],
+        list: &'a [u8],
+        most: usize,
+        is_open: bool,
+    ) -> LetteredFiles<'a>
         ensures { ⟦<LetteredFiles<'a> as Shelf>⟧.failures result ≡ 0 }
     {
         LetteredFiles {
@@ -34,20 +40,11 @@ impl<'a> LetteredFiles<'a> {
             rest: &[],
             most,
             reads_before: u64::MAX,
-            is_open: false,
+            is_open,
             is_begun: false,
             failures: 0,
             begun: Vec::new(alloc),
         }
-    }
-
-    /// The same files, of which each may be peeked.
-    pub fn open(alloc: Global, content: &'a [u8], list: &'a [u8]) -> LetteredFiles<'a>
-        ensures { ⟦<LetteredFiles<'a> as Shelf>⟧.failures result ≡ 0 }
-    {
-        let mut files = LetteredFiles::new(alloc, content, list, content.len());
-        files.is_open = true;
-        files
     }
 
     pub fn begun(&self) -> &[u8] {
@@ -94,7 +91,7 @@ impl Shelf for LetteredFiles<'_> {
         self.is_begun = false;
         if !self.is_kept(name) || name.starts_with("m") {
             self.failures += 1;
-            return Err(NoContent::CannotRead);
+            return Err(NoContent::Missing);
         }
         self.reads_before = if name.starts_with("f") { 1 } else { u64::MAX };
         self.rest = if name == "l" {

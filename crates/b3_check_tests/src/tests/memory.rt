@@ -2,13 +2,11 @@
 
 ghost use Rattle.std.specs.Prelude.{◌≡◌, ◌^◌, ◌<◌};
 
-use crate::tests::checks::THREE_COMPLAINTS;
+use crate::tests::checks::{THREE_COMPLAINTS, THREE_LINES, THREE_VERDICTS};
+use crate::tests::ended::{check_into, sum_into};
 use crate::tests::{check_options, lines_tally, options, tally};
 use b3_board::OpenGate;
-use b3_check::{
-    Answer, MemoryShelf, MemorySink, RunFault, Shelf, Sink, Tally, Verdict, judge, run_check,
-    run_sum,
-};
+use b3_check::{Answer, MemoryShelf, MemorySink, RunFault, Shelf, Sink, Tally, Verdict, judge};
 use b3_lines::read_line;
 use std::alloc::{AllocError, Global};
 use std::process::Abort;
@@ -52,11 +50,6 @@ fn a_memory_sink_holds_what_was_written(rt: HostRuntime) -> Result<(), Fail> {
 const TWO_LINES: &[u8] = b"af1349b9f5f9a1a6a0404dea36dcc9499bcb25c9adc112b7cc9a93cae41f3262  e
 2d3adedff11b61f14c886e35afa036736dcd87a74d27b5c1510225d0f592e213  x
 ";
-
-// A list of a right line that ends in CR LF, a wrong one, and one that is cut off.
-const THREE_LINES: &[u8] = b"2d3adedff11b61f14c886e35afa036736dcd87a74d27b5c1510225d0f592e213  x\r
-2d3adedff11b61f14c886e35afa036736dcd87a74d27b5c1510225d0f592e213  y
-2d3adedff11b61f14c886e35afa036736dcd87a74d27b5c1510225d0f592e213 ";
 
 // Whether the next growth is granted.
 fn is_granted(alloc: Global) -> bool {
@@ -133,7 +126,7 @@ fn refused_memory_of_a_sum_of_two_files(rt: HostRuntime) -> Result<(), Fail> {
     let mut out = MemorySink::new(alloc);
     let mut err = MemorySink::new(alloc);
     let asked = options(10, 0);
-    let answer = run_sum(
+    let answer = sum_into(
         &rt, alloc, &mut shelf, &names, &mut out, &mut err, &asked, &OpenGate,
     );
     compare_refused(
@@ -158,14 +151,14 @@ fn refused_memory_of_a_check_of_three_lines(rt: HostRuntime) -> Result<(), Fail>
     let mut out = MemorySink::new(alloc);
     let mut err = MemorySink::new(alloc);
     let asked = check_options(false, 1_000);
-    let answer = run_check(
+    let answer = check_into(
         &rt, alloc, &mut shelf, &lists, &mut out, &mut err, &asked, &OpenGate,
     );
     compare_refused(
         &rt,
         answer,
         lines_tally(1, 1, 0, 1),
-        (out.bytes(), b"x: OK\ny: FAILED\n"),
+        (out.bytes(), THREE_VERDICTS),
         (err.bytes(), THREE_COMPLAINTS),
     );
     assert!(&rt; is_granted(alloc), "refused after the last call");

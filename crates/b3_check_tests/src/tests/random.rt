@@ -1,15 +1,15 @@
 // Runs that nobody wrote down: random files, lists, options and failures, whose texts and tallies are compared with
 // the report over the answers that the run got.
 
-ghost use Rattle.std.specs.Prelude.{◌≡◌, ◌+◌, ◌-◌, ◌^◌, ◌<◌, ◌≤◌, IfOk};
-ghost use Rattle.b3_check.specs.Options.{CanCheck, CanRun};
+ghost use Rattle.std.specs.Prelude.{◌<◌};
 
 use crate::tests::KEY;
+use crate::tests::ended::{check_into, sum_into};
 use crate::tests::plain_lines::{plain_line, tagged_line};
 use crate::tests::recording::{Answer, File, PieceSink, RecordedFiles, State, content_of};
 use crate::tests::report::{Report, check_report, sum_report};
 use b3_board::OpenGate;
-use b3_check::{CheckOptions, Form, KeyChoice, RunFault, SumOptions, Tally, run_check, run_sum};
+use b3_check::{CheckOptions, Form, KeyChoice, RunFault, SumOptions, Tally};
 use std::alloc::Global;
 use std::process::Abort;
 use std::test::Fail;
@@ -213,9 +213,7 @@ fn lists_at_random(alloc: Global, chance: &mut Chance) -> Result<Vec<String>, Fa
     Ok(lists)
 }
 
-fn sum_options_at_random(alloc: Global, chance: &mut Chance) -> Result<SumOptions, Fail>
-    ensures { IfOk result (λ options. CanRun options) }
-{
+fn sum_options_at_random(alloc: Global, chance: &mut Chance) -> Result<SumOptions, Fail> {
     let key = match chance.below(3) {
         0 => KeyChoice::Plain,
         1 => KeyChoice::Keyed,
@@ -238,9 +236,7 @@ fn sum_options_at_random(alloc: Global, chance: &mut Chance) -> Result<SumOption
     })
 }
 
-fn turns_at_random(chance: &mut Chance) -> u64
-    ensures { (1 ≤ result) × (result ≤ 1000) }
-{
+fn turns_at_random(chance: &mut Chance) -> u64 {
     if chance.is_one_in(4) {
         1 + chance.below(8)
     } else {
@@ -248,9 +244,7 @@ fn turns_at_random(chance: &mut Chance) -> u64
     }
 }
 
-fn check_options_at_random(chance: &mut Chance) -> CheckOptions
-    ensures { CanCheck result }
-{
+fn check_options_at_random(chance: &mut Chance) -> CheckOptions {
     CheckOptions {
         quiet: chance.is_one_in(2),
         ignore_missing: chance.is_one_in(2),
@@ -391,16 +385,8 @@ fn random_sums(rt: HostRuntime) -> Result<(), Fail> {
         let mut shelf = RecordedFiles::new(alloc, files.as_slice(), most, calls_before);
         let mut out = PieceSink::new(alloc, chance.piece(), chance.calls_before(20));
         let mut err = PieceSink::new(alloc, chance.piece(), chance.calls_before(20));
-        assert!(&rt; names.len() < 10);
-        let answer = run_sum(
-            &rt,
-            alloc,
-            &mut shelf,
-            names.as_slice(),
-            &mut out,
-            &mut err,
-            &options,
-            &OpenGate,
+        let answer = sum_into(
+            &rt, alloc, &mut shelf, &names, &mut out, &mut err, &options, &OpenGate,
         );
         let answers = shelf.answers.as_slice();
         let report = sum_report(&rt, alloc, &options, names.as_slice(), answers)?;
@@ -436,16 +422,8 @@ fn random_checks(rt: HostRuntime) -> Result<(), Fail> {
         let mut shelf = RecordedFiles::new(alloc, files.as_slice(), most, calls_before);
         let mut out = PieceSink::new(alloc, chance.piece(), chance.calls_before(40));
         let mut err = PieceSink::new(alloc, chance.piece(), chance.calls_before(40));
-        assert!(&rt; lists.len() < 10);
-        let answer = run_check(
-            &rt,
-            alloc,
-            &mut shelf,
-            lists.as_slice(),
-            &mut out,
-            &mut err,
-            &options,
-            &OpenGate,
+        let answer = check_into(
+            &rt, alloc, &mut shelf, &lists, &mut out, &mut err, &options, &OpenGate,
         );
         let answers = shelf.answers.as_slice();
         let report = check_report(&rt, alloc, &options, lists.as_slice(), answers)?;

@@ -3,13 +3,18 @@
 ghost use Rattle.std.specs.Prelude.{◌≡◌, ◌<◌, [], false, None, Some, is_some};
 
 use b3_check::{CannotRead, NoContent, Shelf, Sink, SinkFailed};
-use std::alloc::Global;
+use std::alloc::{AllocError, Global};
 
 /// A name and its content.
 #[derive(Drop)]
 pub struct File {
     pub name: &'static str,
     pub content: Vec<u8>,
+}
+
+pub fn file_of(alloc: Global, name: &'static str, content: &[u8]) -> Result<File, AllocError> {
+    let content = Vec::from_slice(alloc, content)?;
+    Ok(File { name, content })
 }
 
 /// What a run asked for, and what it was given.

@@ -1,10 +1,11 @@
-// A name that is slow in coming holds no line back.
+// A name that is slow in coming, and begun in its turn, holds no line back.
 
 ghost use Rattle.std.specs.Prelude.{◌≡◌, [], None, false, true};
 
-use crate::tests::workers::Yielding;
+use crate::tests::ended::sum_into;
 use crate::tests::{options, tally};
-use b3_check::{CannotRead, MemorySink, NoContent, Shelf, Sink, SinkFailed, run_sum};
+use b3_board::OpenGate;
+use b3_check::{CannotRead, MemorySink, NoContent, Shelf, Sink, SinkFailed};
 use std::sync::atomic::{AtomicBool, Ordering};
 use std::test::Fail;
 use std::thread;
@@ -46,7 +47,7 @@ impl Shelf for SlowShelf<'_> {
     }
 }
 
-/// Takes all bytes, and says that some were written.
+/// Takes all bytes, of lines that may wait for others, and says that some were written.
 #[derive(Drop)]
 struct NotingSink<'a> {
     is_written: &'a AtomicBool,
@@ -60,6 +61,10 @@ impl Sink for NotingSink<'_> {
     fn write(&mut self, bytes: &[u8]) -> Result<usize, SinkFailed> {
         self.is_written.store(true, Ordering::SeqCst);
         Ok(bytes.len())
+    }
+
+    fn may_wait(&self) -> bool {
+        true
     }
 }
 
@@ -79,15 +84,10 @@ fn a_slow_name_holds_no_line_back(rt: HostRuntime) -> Result<(), Fail> {
         String::from_str(rt.alloc(), "empty")?,
         String::from_str(rt.alloc(), "slow")?,
     ];
-    let answer = run_sum(
-        &rt,
-        rt.alloc(),
-        &mut shelf,
-        &names,
-        &mut out,
-        &mut err,
-        &options(2_000_000, 0),
-        &Yielding,
+    let asked = options(2_000_000, 0);
+    let alloc = rt.alloc();
+    let answer = sum_into(
+        &rt, alloc, &mut shelf, &names, &mut out, &mut err, &asked, &OpenGate,
     );
     assert_eq!(&rt; answer, Ok(tally(2, 0, 0)));
     assert!(&rt; shelf.reads < READS);

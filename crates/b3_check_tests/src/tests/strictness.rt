@@ -1,231 +1,240 @@
 // Checks with the options that say what is passed over, what is strict and what is said: each text where it is due
 // and where it is not, and lists at random with every set of these options beside a plain retelling.
 
-ghost use Rattle.std.specs.Prelude.{◌≡◌};
-ghost use Rattle.b3_check.specs.Options.{CanCheck};
-
+use crate::tests::check_options;
+use crate::tests::ended::{check_files, check_into};
 use crate::tests::random::{Chance, compare, files_at_random, list_at_random};
-use crate::tests::recording::{File, PieceSink, RecordedFiles};
+use crate::tests::recording::{PieceSink, RecordedFiles};
 use crate::tests::report::check_report;
-use crate::tests::{EMPTY, ONE_BYTE, check_options, joined, lines_tally};
 use b3_board::OpenGate;
-use b3_check::{CheckOptions, MemorySink, RunFault, Tally, run_check};
+use b3_check::{CheckOptions, RunFault, Tally};
 use std::alloc::Global;
 use std::process::Abort;
 use std::sync::Wait;
 use std::test::Fail;
 use std::thread::Threads;
 
-// What a check of lists came to.
-#[derive(Drop)]
-struct Came {
-    answer: Result<Tally, RunFault>,
-    out: String,
-    err: String,
+// The options, each a bit of a set.
+const QUIET: u64 = 1;
+
+const IGNORE_MISSING: u64 = 2;
+
+const STATUS: u64 = 4;
+
+const STRICT: u64 = 8;
+
+const WARN: u64 = 16;
+
+// Lists that are checked with a set of options over a file x of one byte 00, and what is counted and written of them:
+// names that are ok, that differ, that cannot be read, malformed lines, missing names, and lists that fail.
+struct Row {
+    name: &'static str,
+    set: u64,
+    lists: &'static [(&'static str, &'static str)],
+    counts: [u64; 6],
+    out: &'static str,
+    err: &'static str,
 }
 
-fn file(alloc: Global, name: &'static str, text: &str) -> Result<File, Fail> {
-    let content = Vec::from_slice(alloc, text.as_bytes())?;
-    Ok(File { name, content })
+fn tally_of(counts: [u64; 6]) -> Tally {
+    let [ok, differing, unreadable, malformed, missing, lists] = counts;
+    Tally {
+        ok,
+        differing,
+        unreadable,
+        malformed,
+        missing,
+        lists,
+    }
 }
 
-// Checks lists of these names and texts, over a file x of one byte.
-fn check<R: Abort + Threads + Wait + Sync>(
+// A file that is right, and a name that is missing.
+const RIGHT_AND_MISSING: &[(&str, &str)] = &[(
+    "l",
+    "2d3adedff11b61f14c886e35afa036736dcd87a74d27b5c1510225d0f592e213  x\n\
+     af1349b9f5f9a1a6a0404dea36dcc9499bcb25c9adc112b7cc9a93cae41f3262  z\n",
+)];
+
+// A list of a missing name and a malformed line, and one of a name that differs and a missing one.
+const MISSING_AND_DIFFERING: &[(&str, &str)] = &[
+    (
+        "m\n",
+        "af1349b9f5f9a1a6a0404dea36dcc9499bcb25c9adc112b7cc9a93cae41f3262  z\n\n",
+    ),
+    (
+        "d",
+        "af1349b9f5f9a1a6a0404dea36dcc9499bcb25c9adc112b7cc9a93cae41f3262  x\n\
+         af1349b9f5f9a1a6a0404dea36dcc9499bcb25c9adc112b7cc9a93cae41f3262  z\n",
+    ),
+];
+
+// An empty list, one of an empty line, and one that has a check line too.
+const WITHOUT_LINES: &[(&str, &str)] = &[
+    ("l", ""),
+    ("m", "\n"),
+    (
+        "n",
+        "\naf1349b9f5f9a1a6a0404dea36dcc9499bcb25c9adc112b7cc9a93cae41f3262  z\n",
+    ),
+];
+
+// Each way in which a line or a list may fail; the list `none` is not there.
+const ALL_FAILURES: &[(&str, &str)] = &[
+    (
+        "l",
+        "2d3adedff11b61f14c886e35afa036736dcd87a74d27b5c1510225d0f592e213  x\n\
+         af1349b9f5f9a1a6a0404dea36dcc9499bcb25c9adc112b7cc9a93cae41f3262  x\n\
+         af1349b9f5f9a1a6a0404dea36dcc9499bcb25c9adc112b7cc9a93cae41f3262  z\nno line\n",
+    ),
+    ("none", ""),
+];
+
+const ROWS: [Row; 12] = [
+    Row {
+        name: "a missing name is told",
+        set: 0,
+        lists: RIGHT_AND_MISSING,
+        counts: [1, 0, 1, 0, 0, 0],
+        out: "x: OK\nz: FAILED (cannot read)\n",
+        err: "b3sum: WARNING: 1 computed checksum did NOT match\n",
+    },
+    Row {
+        name: "a missing name is passed over",
+        set: IGNORE_MISSING,
+        lists: RIGHT_AND_MISSING,
+        counts: [1, 0, 0, 0, 1, 0],
+        out: "x: OK\n",
+        err: "",
+    },
+    Row {
+        name: "a name that differs was verified, a missing one was not, and a malformed line names none",
+        set: IGNORE_MISSING,
+        lists: MISSING_AND_DIFFERING,
+        counts: [0, 1, 0, 1, 2, 1],
+        out: "x: FAILED\n",
+        err: "b3sum: line 2: empty line\nb3sum: \\m\\n: no file was verified\n\
+              b3sum: WARNING: 2 computed checksums did NOT match\n",
+    },
+    Row {
+        name: "of an empty list no file was verified",
+        set: IGNORE_MISSING,
+        lists: &[("l", "")],
+        counts: [0, 0, 0, 0, 0, 1],
+        out: "",
+        err: "b3sum: l: no file was verified\n",
+    },
+    Row {
+        name: "lists without a check line are refused",
+        set: STRICT,
+        lists: WITHOUT_LINES,
+        counts: [0, 0, 1, 2, 0, 2],
+        out: "z: FAILED (cannot read)\n",
+        err: "b3sum: l: no check line found\nb3sum: line 1: empty line\n\
+              b3sum: m: no check line found\nb3sum: line 1: empty line\n\
+              b3sum: WARNING: 3 computed checksums did NOT match\n",
+    },
+    Row {
+        name: "an empty list is not",
+        set: 0,
+        lists: &[("l", "")],
+        counts: [0, 0, 0, 0, 0, 0],
+        out: "",
+        err: "",
+    },
+    Row {
+        name: "a list that fails for two reasons says both, and is counted once",
+        set: STRICT | IGNORE_MISSING,
+        lists: &[("l", "")],
+        counts: [0, 0, 0, 0, 0, 1],
+        out: "",
+        err: "b3sum: l: no file was verified\nb3sum: l: no check line found\n",
+    },
+    Row {
+        name: "malformed lines without their lists",
+        set: 0,
+        lists: &[("m", "\n"), ("a\\b", "x\n")],
+        counts: [0, 0, 0, 2, 0, 0],
+        out: "",
+        err: "b3sum: line 1: empty line\nb3sum: line 1: short line\n\
+              b3sum: WARNING: 2 computed checksums did NOT match\n",
+    },
+    Row {
+        name: "malformed lines with their lists",
+        set: WARN,
+        lists: &[("m", "\n"), ("a\\b", "x\n")],
+        counts: [0, 0, 0, 2, 0, 0],
+        out: "",
+        err: "b3sum: m: line 1: empty line\nb3sum: \\a\\\\b: line 1: short line\n\
+              b3sum: WARNING: 2 computed checksums did NOT match\n",
+    },
+    Row {
+        name: "all failures are told",
+        set: STRICT,
+        lists: ALL_FAILURES,
+        counts: [1, 1, 1, 1, 0, 1],
+        out: "x: OK\nx: FAILED\nz: FAILED (cannot read)\n",
+        err: "b3sum: line 4: short line\nb3sum: none: cannot read\n\
+              b3sum: WARNING: 3 computed checksums did NOT match\n",
+    },
+    Row {
+        name: "all failures are told, quietly",
+        set: QUIET,
+        lists: ALL_FAILURES,
+        counts: [1, 1, 1, 1, 0, 1],
+        out: "x: FAILED\nz: FAILED (cannot read)\n",
+        err: "b3sum: line 4: short line\nb3sum: none: cannot read\n\
+              b3sum: WARNING: 3 computed checksums did NOT match\n",
+    },
+    Row {
+        name: "nothing is written where the status alone tells",
+        set: STRICT | STATUS,
+        lists: ALL_FAILURES,
+        counts: [1, 1, 1, 1, 0, 1],
+        out: "",
+        err: "",
+    },
+];
+
+// Checks the lists of a row; the list `none` is not put on the shelf.
+fn assert_row<R: Abort + Threads + Wait + Sync>(
     rt: &R,
     alloc: Global,
-    lists: &[(&'static str, &str)],
-    options: &CheckOptions,
-) -> Result<Came, Fail>
-    requires { CanCheck options.now }
-{
+    row: &Row,
+) -> Result<(), Fail> {
     let mut files = Vec::new(alloc);
     let mut names = Vec::new(alloc);
-    files.push(file(alloc, "x", "\0")?)?;
-    for (name, text) in lists {
-        files.push(file(alloc, name, text)?)?;
-        names.push(String::from_str(alloc, name)?)?;
+    files.push(("x", b"\0".as_slice()))?;
+    for (name, text) in row.lists {
+        names.push(*name)?;
+        if *name != "none" {
+            files.push((*name, text.as_bytes()))?;
+        }
     }
-    let mut shelf = RecordedFiles::new(alloc, files.as_slice(), usize::MAX, u64::MAX);
-    let mut out = MemorySink::new(alloc);
-    let mut err = MemorySink::new(alloc);
-    assert!(rt; names.len() < 10);
-    let answer = run_check(
-        rt,
-        alloc,
-        &mut shelf,
-        names.as_slice(),
-        &mut out,
-        &mut err,
-        options,
-        &OpenGate,
-    );
-    Ok(Came {
-        answer,
-        out: String::from_str(alloc, str::from_utf8(out.bytes())?)?,
-        err: String::from_str(alloc, str::from_utf8(err.bytes())?)?,
-    })
-}
-
-// The check answered this and wrote just these texts.
-fn came_to(rt: &impl Abort, came: &Came, counts: Tally, out: &str, err: &str) {
-    assert_eq!(rt; came.answer, Ok(counts));
-    assert_eq!(rt; came.out.as_str(), out);
-    assert_eq!(rt; came.err.as_str(), err);
-}
-
-const ONE_WARNING: &str = "b3sum: WARNING: 1 computed checksum did NOT match\n";
-
-#[test]
-fn a_missing_name_is_passed_over_where_that_is_asked(rt: HostRuntime) -> Result<(), Fail> {
-    let alloc = rt.alloc();
-    let list = joined(alloc, &[ONE_BYTE, "  x\n", EMPTY, "  z\n"])?;
-    let lists = [("l", list.as_str())];
-    let mut options = check_options(false, 1_000);
-    let came = check(&rt, alloc, &lists, &options)?;
-    let out = "x: OK\nz: FAILED (cannot read)\n";
-    came_to(&rt, &came, lines_tally(1, 0, 1, 0), out, ONE_WARNING);
-    options.ignore_missing = true;
-    let came = check(&rt, alloc, &lists, &options)?;
-    let counts = Tally {
-        missing: 1,
-        ..lines_tally(1, 0, 0, 0)
-    };
-    came_to(&rt, &came, counts, "x: OK\n", "");
-    assert_eq!(&rt; counts.status(), 0);
-    Ok(())
-}
-
-// A name that differs was verified; one that is missing was not, and a malformed line names none.
-#[test]
-fn a_list_of_which_no_file_was_verified(rt: HostRuntime) -> Result<(), Fail> {
-    let alloc = rt.alloc();
-    let missing = joined(alloc, &[EMPTY, "  z\n\n"])?;
-    let differing = joined(alloc, &[EMPTY, "  x\n", EMPTY, "  z\n"])?;
-    let lists = [("m\n", missing.as_str()), ("d", differing.as_str())];
-    let mut options = check_options(false, 1_000);
-    options.ignore_missing = true;
-    let came = check(&rt, alloc, &lists, &options)?;
-    let counts = Tally {
-        missing: 2,
-        lists: 1,
-        ..lines_tally(0, 1, 0, 1)
-    };
-    let err = "b3sum: line 2: empty line\nb3sum: \\m\\n: no file was verified\n\
-               b3sum: WARNING: 2 computed checksums did NOT match\n";
-    came_to(&rt, &came, counts, "x: FAILED\n", err);
-    let came = check(&rt, alloc, &[("l", "")], &options)?;
-    let counts = Tally {
-        lists: 1,
-        ..lines_tally(0, 0, 0, 0)
-    };
-    came_to(&rt, &came, counts, "", "b3sum: l: no file was verified\n");
-    assert_eq!(&rt; counts.status(), 1);
+    let options = options_of(row.set);
+    let ended = check_files(rt, alloc, files.as_slice(), names.as_slice(), &options)?;
+    let (out, err) = (row.out.as_bytes(), row.err.as_bytes());
+    ended.assert(rt, row.name, Ok(tally_of(row.counts)), out, err);
     Ok(())
 }
 
 #[test]
-fn a_list_without_a_check_line_is_refused_where_that_is_asked(rt: HostRuntime) -> Result<(), Fail> {
-    let alloc = rt.alloc();
-    let missing = joined(alloc, &["\n", EMPTY, "  z\n"])?;
-    let lists = [("l", ""), ("m", "\n"), ("n", missing.as_str())];
-    let mut options = check_options(false, 1_000);
-    options.strict = true;
-    let came = check(&rt, alloc, &lists, &options)?;
-    let counts = Tally {
-        lists: 2,
-        ..lines_tally(0, 0, 1, 2)
-    };
-    let err = "b3sum: l: no check line found\nb3sum: line 1: empty line\n\
-               b3sum: m: no check line found\nb3sum: line 1: empty line\n\
-               b3sum: WARNING: 3 computed checksums did NOT match\n";
-    came_to(&rt, &came, counts, "z: FAILED (cannot read)\n", err);
-    options.strict = false;
-    let came = check(&rt, alloc, &[("l", "")], &options)?;
-    came_to(&rt, &came, Tally::none(), "", "");
+fn each_text_where_it_is_due(rt: HostRuntime) -> Result<(), Fail> {
+    for row in &ROWS {
+        assert_row(&rt, rt.alloc(), row)?;
+    }
+    assert_eq!(&rt; tally_of([1, 0, 0, 0, 1, 0]).status(), 0);
+    assert_eq!(&rt; tally_of([0, 0, 0, 0, 0, 1]).status(), 1);
     Ok(())
 }
 
-// A list that fails for two reasons says both, and is counted once.
-#[test]
-fn a_list_that_is_empty_and_verifies_nothing(rt: HostRuntime) -> Result<(), Fail> {
-    let alloc = rt.alloc();
-    let mut options = check_options(false, 1_000);
-    options.strict = true;
-    options.ignore_missing = true;
-    let came = check(&rt, alloc, &[("l", "")], &options)?;
-    let counts = Tally {
-        lists: 1,
-        ..Tally::none()
-    };
-    let err = "b3sum: l: no file was verified\nb3sum: l: no check line found\n";
-    came_to(&rt, &came, counts, "", err);
-    Ok(())
-}
-
-#[test]
-fn a_malformed_line_names_its_list_where_that_is_asked(rt: HostRuntime) -> Result<(), Fail> {
-    let alloc = rt.alloc();
-    let lists = [("m", "\n"), ("a\\b", "x\n")];
-    let mut options = check_options(false, 1_000);
-    let counts = lines_tally(0, 0, 0, 2);
-    let warning = "b3sum: WARNING: 2 computed checksums did NOT match\n";
-    let came = check(&rt, alloc, &lists, &options)?;
-    let err = joined(
-        alloc,
-        &[
-            "b3sum: line 1: empty line\nb3sum: line 1: short line\n",
-            warning,
-        ],
-    )?;
-    came_to(&rt, &came, counts, "", err.as_str());
-    options.warn = true;
-    let came = check(&rt, alloc, &lists, &options)?;
-    let err = joined(
-        alloc,
-        &[
-            "b3sum: m: line 1: empty line\nb3sum: \\a\\\\b: line 1: short line\n",
-            warning,
-        ],
-    )?;
-    came_to(&rt, &came, counts, "", err.as_str());
-    Ok(())
-}
-
-// Each text that a check has, and none of them where the status alone tells.
-#[test]
-fn nothing_is_written_where_the_status_tells(rt: HostRuntime) -> Result<(), Fail> {
-    let alloc = rt.alloc();
-    let mixed = joined(
-        alloc,
-        &[ONE_BYTE, "  x\n", EMPTY, "  x\n", EMPTY, "  z\nno line\n"],
-    )?;
-    let lists = [("l", mixed.as_str()), ("none", "")];
-    let mut options = check_options(false, 1_000);
-    options.strict = true;
-    let told = check(&rt, alloc, &lists, &options)?;
-    assert!(&rt; !told.out.is_empty() && !told.err.is_empty());
-    options.status = true;
-    let silent = check(&rt, alloc, &lists, &options)?;
-    assert!(&rt; silent.out.is_empty() && silent.err.is_empty());
-    assert_eq!(&rt; silent.answer, told.answer);
-    let counts = Tally {
-        lists: 1,
-        ..lines_tally(1, 1, 1, 1)
-    };
-    assert_eq!(&rt; silent.answer, Ok(counts));
-    Ok(())
-}
-
-// The set of options of this number.
-fn options_of(set: u64) -> CheckOptions
-    ensures { CanCheck result }
-{
+// The options of a set.
+fn options_of(set: u64) -> CheckOptions {
     CheckOptions {
-        quiet: set & 1 > 0,
-        ignore_missing: set & 2 > 0,
-        status: set & 4 > 0,
-        strict: set & 8 > 0,
-        warn: set & 16 > 0,
+        quiet: set & QUIET > 0,
+        ignore_missing: set & IGNORE_MISSING > 0,
+        status: set & STATUS > 0,
+        strict: set & STRICT > 0,
+        warn: set & WARN > 0,
         ..check_options(false, 100_000)
     }
 }
@@ -248,7 +257,7 @@ fn check_at_random<R: Abort + Threads + Wait + Sync>(
     let mut shelf = RecordedFiles::new(alloc, files.as_slice(), 64, calls_before);
     let mut out = PieceSink::new(alloc, chance.piece(), u64::MAX);
     let mut err = PieceSink::new(alloc, chance.piece(), u64::MAX);
-    let answer = run_check(
+    let answer = check_into(
         rt, alloc, &mut shelf, &lists, &mut out, &mut err, &options, &OpenGate,
     );
     let answers = shelf.answers.as_slice();

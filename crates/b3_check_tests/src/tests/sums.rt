@@ -1,310 +1,203 @@
 // Runs that write digests.
 
-ghost use Rattle.std.specs.Prelude.{◌≡◌, ◌^◌, ◌<◌, ◌≤◌};
-ghost use Rattle.b3_check.specs.Options.{CanRun};
-
-use crate::tests::devices::{FailingShelf, OneByteShelf, OneByteSink};
-use crate::tests::{EMPTY, KEY, KEYED_EMPTY, joined, options, pattern, tally};
+use crate::tests::contents::pattern;
+use crate::tests::ended::{Ended, sum, sum_files, sum_into};
+use crate::tests::recording::{PieceSink, RecordedFiles, file_of};
+use crate::tests::{EMPTY, KEY, KEYED_EMPTY, joined, options, tally};
 use b3_board::OpenGate;
-use b3_check::{
-    Form, KeyChoice, MemoryShelf, MemorySink, RunFault, Shelf, Sink, SumOptions, Tally, run_sum,
-};
-use std::alloc::Global;
+use b3_check::{Form, KeyChoice, RunFault};
+use std::process::Abort;
 use std::sync::Wait;
 use std::test::Fail;
 use std::thread::Threads;
 
-// Sums one name with these options.
-pub fn sum_one<R: Threads + Wait + Sync, S: Shelf + Send + Sync, O: Sink, E: Sink>(
-    rt: &R,
-    alloc: Global,
-    shelf: &mut S,
-    name: &str,
-    out: &mut O,
-    err: &mut E,
-    options: &SumOptions,
-) -> Result<Tally, RunFault>
-    requires options { CanRun options.now }
-    requires shelf { S.failures shelf.old < 2 ^ 63 }
-    requires out { O.failures out.old < 2 ^ 63 }
-    requires err { E.failures err.old < 2 ^ 63 }
-{
-    let names = [String::from_str(alloc, name)?];
-    run_sum(rt, alloc, shelf, &names, out, err, options, &OpenGate)
-}
-
 #[test]
 fn a_name_that_is_not_there_does_not_end_the_run(rt: HostRuntime) -> Result<(), Fail> {
-    let mut shelf = MemoryShelf::new(rt.alloc());
-    let mut out = MemorySink::new(rt.alloc());
-    let mut err = MemorySink::new(rt.alloc());
-    shelf.put("e", b"")?;
-    let names = [
-        String::from_str(rt.alloc(), "p")?,
-        String::from_str(rt.alloc(), "e")?,
-    ];
-    let asked = options(1, 0);
-    let answer = run_sum(
-        &rt,
-        rt.alloc(),
-        &mut shelf,
-        &names,
-        &mut out,
-        &mut err,
-        &asked,
-        &OpenGate,
-    );
-    assert_eq!(rt; answer, Ok(tally(1, 1, 0)));
-    assert_eq!(rt;
-        out.bytes(),
-        joined(rt.alloc(), &[EMPTY, "  e\n"])?.as_bytes()
-    );
-    assert_eq!(rt; err.bytes(), b"b3sum: p: cannot read\n".as_slice());
-    assert_eq!(rt; tally(1, 1, 0).status(), 1);
-    assert_eq!(rt; tally(1, 0, 0).status(), 0);
-    assert_eq!(rt; tally(1, 0, 1).status(), 1);
+    let alloc = rt.alloc();
+    let line = joined(alloc, &[EMPTY, "  e\n"])?;
+    let names = ["p", "e"];
+    let ended = sum_files(&rt, alloc, &[("e", b"")], &names, &options(1, 0))?;
+    let complaint = b"b3sum: p: cannot read\n";
+    ended.assert(&rt, "p, e", Ok(tally(1, 1, 0)), line.as_bytes(), complaint);
+    assert_eq!(&rt; tally(1, 1, 0).status(), 1);
+    assert_eq!(&rt; tally(1, 0, 0).status(), 0);
+    assert_eq!(&rt; tally(1, 0, 1).status(), 1);
     Ok(())
 }
 
+// An empty file of each name: its text, or what is said of a name that no line can show. A form that shows no name
+// takes any.
+const FORMS: [(Form, &str, &[u8], &str); 10] = [
+    (Form::Named, "", b"", "b3sum: : bad name\n"),
+    (Form::Named, "a\0", b"", "b3sum: a\0: bad name\n"),
+    (
+        Form::Named,
+        "\u{FFFD}\n",
+        b"",
+        "b3sum: \\\u{FFFD}\\n: bad name\n",
+    ),
+    (Form::Tagged, "", b"", "b3sum: : bad name\n"),
+    (Form::Tagged, "\n\0", b"", "b3sum: \\\\n\0: bad name\n"),
+    (
+        Form::Tagged,
+        "-",
+        b"BLAKE3 (-) = af1349b9f5f9a1a6a0404dea36dcc9499bcb25c9adc112b7cc9a93cae41f3262\n",
+        "",
+    ),
+    (
+        Form::Tagged,
+        "a) = b",
+        b"BLAKE3 (a) = b) = af1349b9f5f9a1a6a0404dea36dcc9499bcb25c9adc112b7cc9a93cae41f3262\n",
+        "",
+    ),
+    (
+        Form::Tagged,
+        "a\\b",
+        b"\\BLAKE3 (a\\\\b) = af1349b9f5f9a1a6a0404dea36dcc9499bcb25c9adc112b7cc9a93cae41f3262\n",
+        "",
+    ),
+    (
+        Form::Bare,
+        "",
+        b"af1349b9f5f9a1a6a0404dea36dcc9499bcb25c9adc112b7cc9a93cae41f3262\n",
+        "",
+    ),
+    (
+        Form::Raw,
+        "",
+        b"\xAF\x13\x49\xB9\xF5\xF9\xA1\xA6\xA0\x40\x4D\xEA\x36\xDC\xC9\x49\
+          \x9B\xCB\x25\xC9\xAD\xC1\x12\xB7\xCC\x9A\x93\xCA\xE4\x1F\x32\x62",
+        "",
+    ),
+];
+
 #[test]
-fn names_that_no_line_can_show(rt: HostRuntime) -> Result<(), Fail> {
-    for (form, name, complaint) in [
-        (Form::Named, "", "b3sum: : bad name\n"),
-        (Form::Named, "a\0", "b3sum: a\0: bad name\n"),
-        (
-            Form::Named,
-            "\u{FFFD}\n",
-            "b3sum: \\\u{FFFD}\\n: bad name\n",
-        ),
-        (Form::Tagged, "", "b3sum: : bad name\n"),
-        (Form::Tagged, "\n\0", "b3sum: \\\\n\0: bad name\n"),
-    ] {
-        let mut shelf = MemoryShelf::new(rt.alloc());
-        let mut out = MemorySink::new(rt.alloc());
-        let mut err = MemorySink::new(rt.alloc());
-        shelf.put(name, b"")?;
+fn names_in_each_form(rt: HostRuntime) -> Result<(), Fail> {
+    let alloc = rt.alloc();
+    for (form, name, text, complaint) in &FORMS {
         let mut asked = options(1, 0);
-        asked.form = form;
-        let answer = sum_one(
-            &rt,
-            rt.alloc(),
-            &mut shelf,
-            name,
-            &mut out,
-            &mut err,
-            &asked,
-        );
-        assert_eq!(rt; answer, Ok(tally(0, 1, 0)));
-        assert!(rt; out.bytes().is_empty());
-        assert_eq!(rt; err.bytes(), complaint.as_bytes());
+        asked.form = *form;
+        let ended = sum_files(&rt, alloc, &[(*name, b"")], &[*name], &asked)?;
+        let counts = match complaint.is_empty() {
+            true => tally(1, 0, 0),
+            false => tally(0, 1, 0),
+        };
+        ended.assert(&rt, name, Ok(counts), text, complaint.as_bytes());
     }
     Ok(())
 }
 
-#[test]
-fn tagged_lines(rt: HostRuntime) -> Result<(), Fail> {
-    for (name, before) in [
-        ("-", "BLAKE3 (-) = "),
-        ("a) = b", "BLAKE3 (a) = b) = "),
-        ("a\\b", "\\BLAKE3 (a\\\\b) = "),
-    ] {
-        let mut shelf = MemoryShelf::new(rt.alloc());
-        let mut out = MemorySink::new(rt.alloc());
-        let mut err = MemorySink::new(rt.alloc());
-        shelf.put(name, b"")?;
-        let mut asked = options(1, 0);
-        asked.form = Form::Tagged;
-        let answer = sum_one(
-            &rt,
-            rt.alloc(),
-            &mut shelf,
-            name,
-            &mut out,
-            &mut err,
-            &asked,
-        );
-        assert_eq!(rt; answer, Ok(tally(1, 0, 0)));
-        let line = joined(rt.alloc(), &[before, EMPTY, "\n"])?;
-        assert_eq!(rt; out.bytes(), line.as_bytes());
-        assert!(rt; err.bytes().is_empty());
-    }
-    Ok(())
-}
-
-// A form that shows no name takes any.
-#[test]
-fn digits_and_bytes_alone(rt: HostRuntime) -> Result<(), Fail> {
-    let digits = joined(rt.alloc(), &[EMPTY, "\n"])?;
-    for (form, length, written) in [
-        (Form::Bare, 32, digits.as_bytes()),
-        (Form::Raw, 4, [0xAF, 0x13, 0x49, 0xB9].as_slice()),
-    ] {
-        let mut shelf = MemoryShelf::new(rt.alloc());
-        let mut out = MemorySink::new(rt.alloc());
-        let mut err = MemorySink::new(rt.alloc());
-        shelf.put("", b"")?;
-        let mut asked = options(1, 0);
-        asked.form = form;
-        assert!(rt; length <= 32);
-        asked.length = length;
-        let answer = sum_one(&rt, rt.alloc(), &mut shelf, "", &mut out, &mut err, &asked);
-        assert_eq!(rt; answer, Ok(tally(1, 0, 0)));
-        assert_eq!(rt; out.bytes(), written);
-        assert!(rt; err.bytes().is_empty());
-    }
-    Ok(())
-}
-
-#[test]
-fn output_of_another_length(rt: HostRuntime) -> Result<(), Fail> {
-    for (length, beginning) in [
-        (0u32, 0usize),
-        (1, 2),
-        (31, 62),
-        (33, 64),
-        (64, 64),
-        (1_048_576, 64),
-    ] {
-        let mut shelf = MemoryShelf::new(rt.alloc());
-        let mut out = MemorySink::new(rt.alloc());
-        let mut err = MemorySink::new(rt.alloc());
-        shelf.put("-", b"")?;
-        let mut asked = options(1, 0);
-        assert!(rt; length <= 1_048_576);
-        asked.length = length;
-        let answer = sum_one(&rt, rt.alloc(), &mut shelf, "-", &mut out, &mut err, &asked);
-        assert_eq!(rt; answer, Ok(tally(1, 0, 0)), "{length} bytes");
-        assert_eq!(rt;
-            out.bytes().len(),
-            2 * length as usize + 4,
-            "{length} bytes"
-        );
-        assert!(rt;
-            out.bytes().starts_with(&EMPTY.as_bytes()[..beginning]),
-            "{length} bytes"
-        );
-        assert!(rt; out.bytes().ends_with(b"  -\n"), "{length} bytes");
-        assert!(rt; err.bytes().is_empty());
-    }
+// An empty input, whose output is written from a place on, in some length: so many digits of its digest are written.
+fn assert_output<R: AllocGlobal + Abort + Threads + Wait + Sync>(
+    rt: &R,
+    seek: u64,
+    length: u32,
+    digits: &str,
+) -> Result<(), Fail> {
+    let mut asked = options(1, 0);
+    asked.seek = seek;
+    asked.length = length;
+    let ended = sum_files(rt, rt.alloc(), &[("-", b"")], &["-"], &asked)?;
+    let out = ended.out.as_slice();
+    assert_eq!(rt; ended.answer, Ok(tally(1, 0, 0)), "{length} bytes");
+    assert_eq!(rt; out.len(), 2 * length as usize + 4, "{length} bytes");
+    assert!(rt; out.starts_with(digits.as_bytes()), "{length} bytes");
+    assert!(rt; out.ends_with(b"  -\n"), "{length} bytes");
+    assert!(rt; ended.err.is_empty(), "{length} bytes");
     Ok(())
 }
 
 // One byte on, the digest lacks its first two digits.
 #[test]
-fn output_from_a_later_place(rt: HostRuntime) -> Result<(), Fail> {
-    let mut shelf = MemoryShelf::new(rt.alloc());
-    let mut out = MemorySink::new(rt.alloc());
-    let mut err = MemorySink::new(rt.alloc());
-    shelf.put("-", b"")?;
-    let mut asked = options(1, 0);
-    asked.seek = 1;
-    asked.length = 31;
-    let answer = sum_one(&rt, rt.alloc(), &mut shelf, "-", &mut out, &mut err, &asked);
-    assert_eq!(rt; answer, Ok(tally(1, 0, 0)));
-    assert_eq!(rt;
-        out.bytes(),
-        joined(rt.alloc(), &[&EMPTY[2..], "  -\n"])?.as_bytes()
-    );
-    Ok(())
-}
-
-#[test]
-fn a_derived_key(rt: HostRuntime) -> Result<(), Fail> {
-    let mut shelf = MemoryShelf::new(rt.alloc());
-    let mut out = MemorySink::new(rt.alloc());
-    let mut err = MemorySink::new(rt.alloc());
-    shelf.put("-", b"")?;
-    let mut asked = options(1, 0);
-    let context = "BLAKE3 2019-12-27 16:29:52 test vectors context";
-    asked.key = KeyChoice::Derive(String::from_str(rt.alloc(), context)?);
-    let answer = sum_one(&rt, rt.alloc(), &mut shelf, "-", &mut out, &mut err, &asked);
-    let line = "2cc39783c223154fea8dfb7c1b1660f2ac2dcbd1c1de8277b0b0dd39b7e50d7d  -\n";
-    assert_eq!(rt; answer, Ok(tally(1, 0, 0)));
-    assert_eq!(rt; out.bytes(), line.as_bytes());
-    Ok(())
-}
-
-#[test]
-fn a_key_that_is_read(rt: HostRuntime) -> Result<(), Fail> {
-    let mut shelf = MemoryShelf::new(rt.alloc());
-    let mut out = MemorySink::new(rt.alloc());
-    let mut err = MemorySink::new(rt.alloc());
-    shelf.put("-", KEY)?;
-    shelf.put("e", b"")?;
-    let mut asked = options(1, 0);
-    asked.key = KeyChoice::Keyed;
-    let answer = sum_one(&rt, rt.alloc(), &mut shelf, "e", &mut out, &mut err, &asked);
-    assert_eq!(rt; answer, Ok(tally(1, 0, 0)));
-    assert_eq!(rt;
-        out.bytes(),
-        joined(rt.alloc(), &[KEYED_EMPTY, "  e\n"])?.as_bytes()
-    );
-    assert!(rt; err.bytes().is_empty());
-    Ok(())
-}
-
-#[test]
-fn a_key_of_another_length_is_bad(rt: HostRuntime) -> Result<(), Fail> {
-    for length in [0, 1, 31, 33, 64] {
-        let mut shelf = MemoryShelf::new(rt.alloc());
-        let mut out = MemorySink::new(rt.alloc());
-        let mut err = MemorySink::new(rt.alloc());
-        shelf.put("-", pattern(rt.alloc(), length)?.as_slice())?;
-        shelf.put("e", b"")?;
-        let mut asked = options(1, 0);
-        asked.key = KeyChoice::Keyed;
-        let answer = sum_one(&rt, rt.alloc(), &mut shelf, "e", &mut out, &mut err, &asked);
-        assert_eq!(rt; answer, Err(RunFault::BadKey), "{length} bytes");
-        assert!(rt; out.bytes().is_empty());
-        assert!(rt; err.bytes().is_empty());
+fn outputs_of_other_lengths_and_places(rt: HostRuntime) -> Result<(), Fail> {
+    for (seek, length, digits) in [
+        (0, 0, ""),
+        (0, 1, &EMPTY[..2]),
+        (0, 31, &EMPTY[..62]),
+        (0, 33, EMPTY),
+        (0, 64, EMPTY),
+        (0, 1_048_576, EMPTY),
+        (1, 31, &EMPTY[2..]),
+    ] {
+        assert_output(&rt, seek, length, digits)?;
     }
     Ok(())
 }
 
 #[test]
-fn a_key_that_is_not_there(rt: HostRuntime) -> Result<(), Fail> {
-    let mut shelf = MemoryShelf::new(rt.alloc());
-    let mut out = MemorySink::new(rt.alloc());
-    let mut err = MemorySink::new(rt.alloc());
-    shelf.put("e", b"")?;
+fn a_derived_key(rt: HostRuntime) -> Result<(), Fail> {
+    let alloc = rt.alloc();
+    let mut asked = options(1, 0);
+    let context = "BLAKE3 2019-12-27 16:29:52 test vectors context";
+    asked.key = KeyChoice::Derive(String::from_str(alloc, context)?);
+    let ended = sum_files(&rt, alloc, &[("-", b"")], &["-"], &asked)?;
+    let line = b"2cc39783c223154fea8dfb7c1b1660f2ac2dcbd1c1de8277b0b0dd39b7e50d7d  -\n";
+    ended.assert(&rt, context, Ok(tally(1, 0, 0)), line, b"");
+    Ok(())
+}
+
+// Sums an empty file with the key of these files.
+fn keyed<R: AllocGlobal + Abort + Threads + Wait + Sync>(
+    rt: &R,
+    files: &[(&str, &[u8])],
+) -> Result<Ended, Fail> {
     let mut asked = options(1, 0);
     asked.key = KeyChoice::Keyed;
-    let answer = sum_one(&rt, rt.alloc(), &mut shelf, "e", &mut out, &mut err, &asked);
-    assert_eq!(rt; answer, Err(RunFault::ReadFault));
-    assert!(rt; out.bytes().is_empty());
-    assert!(rt; err.bytes().is_empty());
+    sum_files(rt, rt.alloc(), files, &["e"], &asked)
+}
+
+#[test]
+fn keys_that_are_read(rt: HostRuntime) -> Result<(), Fail> {
+    let line = joined(rt.alloc(), &[KEYED_EMPTY, "  e\n"])?;
+    let ended = keyed(&rt, &[("-", KEY), ("e", b"")])?;
+    ended.assert(&rt, "32 bytes", Ok(tally(1, 0, 0)), line.as_bytes(), b"");
+    let ended = keyed(&rt, &[("e", b"")])?;
+    ended.assert(&rt, "no key", Err(RunFault::ReadFault), b"", b"");
+    let twice = b"whats the Elvish word for friendwhats the Elvish word for friend";
+    for length in [0, 1, 31, 33, 64] {
+        let ended = keyed(&rt, &[("-", &twice[..length]), ("e", b"")])?;
+        ended.assert(
+            &rt,
+            "a key of another length",
+            Err(RunFault::BadKey),
+            b"",
+            b"",
+        );
+    }
     Ok(())
 }
 
 // The 33 reads of the key are not bounded by `turns`; the one read of the file is.
 #[test]
 fn a_key_may_take_more_reads_than_a_file(rt: HostRuntime) -> Result<(), Fail> {
-    for (turns, expected) in [(33, Ok(tally(1, 0, 0))), (1, Err(RunFault::EndlessInput))] {
-        let mut shelf = OneByteShelf::new(KEY);
-        let mut out = MemorySink::new(rt.alloc());
-        let mut err = MemorySink::new(rt.alloc());
-        assert!(rt; 1 <= turns && turns <= 33);
-        let mut asked = options(turns, 32);
+    let alloc = rt.alloc();
+    let files = [
+        file_of(alloc, "-", KEY)?,
+        file_of(alloc, "e", b"")?,
+        file_of(alloc, "x", b"\0")?,
+    ];
+    for (name, expected) in [
+        ("e", Ok(tally(1, 0, 0))),
+        ("x", Err(RunFault::EndlessInput)),
+    ] {
+        let mut shelf = RecordedFiles::new(alloc, &files, 1, u64::MAX);
+        let mut asked = options(1, 32);
         asked.key = KeyChoice::Keyed;
-        let answer = sum_one(&rt, rt.alloc(), &mut shelf, "e", &mut out, &mut err, &asked);
-        assert_eq!(rt; answer, expected, "{turns} reads");
-        assert!(rt; err.bytes().is_empty());
+        let ended = sum(&rt, alloc, &mut shelf, &[name], &asked, &OpenGate)?;
+        assert_eq!(&rt; ended.answer, expected, "{name}");
+        assert!(&rt; ended.err.is_empty(), "{name}");
     }
     Ok(())
 }
 
 #[test]
 fn no_file_is_too_large(rt: HostRuntime) -> Result<(), Fail> {
+    // by the installed b3sum
+    let line = b"bf6a85238aff740e789a85adc9a57c50e72a1626fd0d02391785bfd8c0691495  -\n";
     for largest in [0, 10, 11] {
-        let mut shelf = MemoryShelf::new(rt.alloc());
-        let mut out = MemorySink::new(rt.alloc());
-        let mut err = MemorySink::new(rt.alloc());
-        shelf.put("-", b"eleven byte")?;
-        let asked = options(100, largest);
-        let given = sum_one(&rt, rt.alloc(), &mut shelf, "-", &mut out, &mut err, &asked);
-        assert_eq!(rt; given, Ok(tally(1, 0, 0)), "at {largest}");
-        assert_eq!(rt; out.bytes().len(), 68, "at {largest}");
-        assert!(rt; err.bytes().is_empty());
+        let files = [("-", b"eleven byte".as_slice())];
+        let ended = sum_files(&rt, rt.alloc(), &files, &["-"], &options(100, largest))?;
+        ended.assert(&rt, "eleven bytes", Ok(tally(1, 0, 0)), line, b"");
     }
     Ok(())
 }
@@ -312,147 +205,104 @@ fn no_file_is_too_large(rt: HostRuntime) -> Result<(), Fail> {
 // At the last read that is allowed a content of 100 bytes has not ended.
 #[test]
 fn a_content_and_its_last_read(rt: HostRuntime) -> Result<(), Fail> {
-    let line = "a2c85460e965626580e9cfa7a8aef6047720ee48efdd0ef27613ed358425e57a  -\n";
-    for (length, largest, expected) in [
-        (99, 1_000, Ok(tally(1, 0, 0))),
-        (100, 1_000, Err(RunFault::EndlessInput)),
-        (100, 100, Err(RunFault::EndlessInput)),
-        (100, 99, Err(RunFault::EndlessInput)),
-    ] {
-        let content = pattern(rt.alloc(), length)?;
-        let mut shelf = OneByteShelf::new(content.as_slice());
-        let mut out = MemorySink::new(rt.alloc());
-        let mut err = MemorySink::new(rt.alloc());
-        let asked = options(100, largest);
-        let answer = sum_one(&rt, rt.alloc(), &mut shelf, "-", &mut out, &mut err, &asked);
-        assert_eq!(rt; answer, expected, "{length} bytes of {largest}");
-        let written = if length == 99 { line } else { "" };
-        assert_eq!(rt;
-            out.bytes(),
-            written.as_bytes(),
-            "{length} bytes of {largest}"
-        );
-        assert!(rt; err.bytes().is_empty());
+    let alloc = rt.alloc();
+    // of 99 bytes, by the installed b3sum
+    let line = b"a2c85460e965626580e9cfa7a8aef6047720ee48efdd0ef27613ed358425e57a  -\n";
+    for (length, largest) in [(99, 1_000), (100, 1_000), (100, 100), (100, 99)] {
+        let files = [file_of(alloc, "-", pattern(alloc, length)?.as_slice())?];
+        let mut shelf = RecordedFiles::new(alloc, &files, 1, u64::MAX);
+        let ended = sum(
+            &rt,
+            alloc,
+            &mut shelf,
+            &["-"],
+            &options(100, largest),
+            &OpenGate,
+        )?;
+        if length == 99 {
+            ended.assert(&rt, "99 bytes", Ok(tally(1, 0, 0)), line, b"");
+        } else {
+            ended.assert(&rt, "100 bytes", Err(RunFault::EndlessInput), b"", b"");
+        }
     }
     Ok(())
 }
 
-#[test]
-fn one_byte_a_call_gives_the_same_text(rt: HostRuntime) -> Result<(), Fail> {
-    let content = pattern(rt.alloc(), 1_025)?;
-    let line = "d00278ae47eb27b34faecf67b4fe263f82d5412916c1ffd97c8cb7fb814b8444  -\n";
-    let mut err = MemorySink::new(rt.alloc());
-
-    let mut whole = MemoryShelf::new(rt.alloc());
-    whole.put("-", content.as_slice())?;
-    let mut out = MemorySink::new(rt.alloc());
-    let answer = sum_one(
-        &rt,
-        rt.alloc(),
-        &mut whole,
-        "-",
-        &mut out,
-        &mut err,
-        &options(2, 2_000),
-    );
-    assert_eq!(rt; answer, Ok(tally(1, 0, 0)));
-    assert_eq!(rt; out.bytes(), line.as_bytes());
-    assert!(rt; err.bytes().is_empty());
-
-    let mut bytewise = OneByteShelf::new(content.as_slice());
-    let mut out = OneByteSink::new(rt.alloc(), 68);
-    let mut err = MemorySink::new(rt.alloc());
+// Sums a name of these files, of one byte a read, into sinks that take one byte a write, and so many of them.
+fn sum_by_bytes<R: AllocGlobal + Abort + Threads + Wait + Sync>(
+    rt: &R,
+    content: Option<&[u8]>,
+    most: u64,
+) -> Result<Ended, Fail> {
+    let alloc = rt.alloc();
+    let mut files = Vec::new(alloc);
+    if let Some(content) = content {
+        files.push(file_of(alloc, "-", content)?)?;
+    }
+    let mut shelf = RecordedFiles::new(alloc, files.as_slice(), 1, u64::MAX);
+    let mut out = PieceSink::new(alloc, 1, most);
+    let mut err = PieceSink::new(alloc, 1, most);
+    let names = [String::from_str(alloc, "-")?];
     let asked = options(2_000, 2_000);
-    let answer = sum_one(
-        &rt,
-        rt.alloc(),
-        &mut bytewise,
-        "-",
-        &mut out,
-        &mut err,
-        &asked,
+    let answer = sum_into(
+        rt, alloc, &mut shelf, &names, &mut out, &mut err, &asked, &OpenGate,
     );
-    assert_eq!(rt; answer, Ok(tally(1, 0, 0)));
-    assert_eq!(rt; out.bytes.as_slice(), line.as_bytes());
-    assert!(rt; err.bytes().is_empty());
+    Ok(Ended {
+        answer,
+        out: out.bytes,
+        err: err.bytes,
+    })
+}
+
+#[test]
+fn sinks_of_one_byte_a_write_hold_the_text_or_its_beginning(rt: HostRuntime) -> Result<(), Fail> {
+    let content = pattern(rt.alloc(), 1_025)?;
+    // by the installed b3sum
+    let line = b"d00278ae47eb27b34faecf67b4fe263f82d5412916c1ffd97c8cb7fb814b8444  -\n";
+    let complaint = b"b3sum: -: cannot read\n";
+    for most in 0..69u64 {
+        let ended = sum_by_bytes(&rt, Some(content.as_slice()), most)?;
+        let counts = if most < 68 {
+            Err(RunFault::WriteFault)
+        } else {
+            Ok(tally(1, 0, 0))
+        };
+        ended.assert(&rt, "a line", counts, &line[..most.min(68) as usize], b"");
+        let ended = sum_by_bytes(&rt, None, most)?;
+        let counts = if most < 22 {
+            Err(RunFault::WriteFault)
+        } else {
+            Ok(tally(0, 1, 0))
+        };
+        ended.assert(
+            &rt,
+            "a complaint",
+            counts,
+            b"",
+            &complaint[..most.min(22) as usize],
+        );
+    }
     Ok(())
 }
 
 #[test]
 fn a_shelf_that_fails_in_mid_stream(rt: HostRuntime) -> Result<(), Fail> {
-    for reads in [0, 1, 2, 3] {
-        let mut shelf = FailingShelf::new(b"ten bytes.", reads);
-        let mut out = MemorySink::new(rt.alloc());
-        let mut err = MemorySink::new(rt.alloc());
-        let names = [
-            String::from_str(rt.alloc(), "a")?,
-            String::from_str(rt.alloc(), "a")?,
-        ];
-        let asked = options(100, 100);
-        let answer = run_sum(
+    let alloc = rt.alloc();
+    // by the installed b3sum
+    let line = b"23234e1e0182c5d9cac4a73600596e47b2d0fbdd84a42f4fe32a7feabe2e36e5  a\n";
+    let files = [file_of(alloc, "a", b"ten bytes.")?];
+    for calls_before in 0..5 {
+        let mut shelf = RecordedFiles::new(alloc, &files, 4, calls_before);
+        let ended = sum(
             &rt,
-            rt.alloc(),
+            alloc,
             &mut shelf,
-            &names,
-            &mut out,
-            &mut err,
-            &asked,
+            &["a", "a"],
+            &options(100, 100),
             &OpenGate,
-        );
-        assert_eq!(rt; answer, Ok(tally(1, 1, 0)), "after {reads}");
-        assert_eq!(rt; out.bytes().len(), 68, "after {reads}");
-        assert_eq!(rt; err.bytes(), b"b3sum: a: cannot read\n".as_slice());
-    }
-    Ok(())
-}
-
-#[test]
-fn a_sink_that_fails_holds_a_beginning(rt: HostRuntime) -> Result<(), Fail> {
-    let line = joined(rt.alloc(), &[EMPTY, "  -\n"])?;
-    for most in [0, 1, 67] {
-        let mut shelf = OneByteShelf::new(b"");
-        let mut out = OneByteSink::new(rt.alloc(), most);
-        let mut err = MemorySink::new(rt.alloc());
-        let answer = sum_one(
-            &rt,
-            rt.alloc(),
-            &mut shelf,
-            "-",
-            &mut out,
-            &mut err,
-            &options(1, 0),
-        );
-        assert_eq!(rt; answer, Err(RunFault::WriteFault), "after {most}");
-        assert_eq!(rt; out.bytes.len(), most);
-        assert!(rt;
-            line.as_bytes().starts_with(out.bytes.as_slice()),
-            "after {most}"
-        );
-        assert!(rt; err.bytes().is_empty());
-    }
-    Ok(())
-}
-
-#[test]
-fn a_sink_that_fails_within_a_complaint(rt: HostRuntime) -> Result<(), Fail> {
-    let complaint = b"b3sum: -: cannot read\n";
-    for most in [0, 1, 8, 21] {
-        let mut shelf = MemoryShelf::new(rt.alloc());
-        let mut out = MemorySink::new(rt.alloc());
-        let mut err = OneByteSink::new(rt.alloc(), most);
-        let answer = sum_one(
-            &rt,
-            rt.alloc(),
-            &mut shelf,
-            "-",
-            &mut out,
-            &mut err,
-            &options(1, 0),
-        );
-        assert_eq!(rt; answer, Err(RunFault::WriteFault), "after {most}");
-        assert_eq!(rt; err.bytes.len(), most);
-        assert!(rt; complaint.starts_with(err.bytes.as_slice()), "after {most}");
-        assert!(rt; out.bytes().is_empty());
+        )?;
+        let complaint = b"b3sum: a: cannot read\n";
+        ended.assert(&rt, "a, a", Ok(tally(1, 1, 0)), line, complaint);
     }
     Ok(())
 }

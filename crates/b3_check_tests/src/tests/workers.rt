@@ -1,20 +1,19 @@
 // Runs of one and of many workers: behind a gate that holds none, behind one that lets the others go on, and
-// behind one that holds the first worker until another one comes.
+// behind one that holds each worker until all have come.
 
-ghost use Rattle.std.specs.Prelude.{◌≡◌, ◌^◌, ◌<◌, ◌≤◌};
-
-use crate::tests::devices::GrowingShelf;
-use crate::tests::{check_options, options, pattern, tally};
+use crate::tests::contents::pattern;
+use crate::tests::ended::{check, check_into, sum, sum_into};
+use crate::tests::lettered_files::LetteredFiles;
+use crate::tests::meeting::{AllAtOnce, Yielding};
+use crate::tests::{check_options, joined, options, tally};
 use b3_board::{Gate, OpenGate};
-use b3_check::{MemorySink, run_check, run_sum};
+use b3_check::MemorySink;
 use b3_hash::hash;
 use b3_lines::write_line;
 use std::alloc::Global;
 use std::process::Abort;
 use std::sync::Wait;
-use std::sync::atomic::{AtomicBool, AtomicU64, Ordering};
 use std::test::Fail;
-use std::thread;
 use std::thread::Threads;
 
 const FILES: usize = 100;
@@ -22,275 +21,157 @@ const FILES: usize = 100;
 // Files of 0 to 40,000 bytes, each so many longer than the one before.
 const STEP: usize = 404;
 
-// Lets the others go on. It does not say that it holds nobody, so each worker has a thread, up to the spans.
-pub struct Yielding;
-
-impl Gate for Yielding {
-    fn pass(&self, _worker: usize, _span: usize) {
-        thread::yield_now();
-    }
-}
-
-// Holds the first call until another one has come, for at most a million turns.
+// The names of the files, their check lines, and what a check says of them.
 #[derive(Drop)]
-struct TwoAtOnce {
-    calls: AtomicU64,
-    met: AtomicU64,
+struct Texts {
+    names: Vec<String>,
+    lines: Vec<u8>,
+    verdicts: String,
 }
 
-impl TwoAtOnce {
-    fn new() -> TwoAtOnce {
-        TwoAtOnce {
-            calls: AtomicU64::new(0),
-            met: AtomicU64::new(0),
-        }
-    }
-}
-
-impl Gate for TwoAtOnce {
-    fn pass(&self, _worker: usize, _span: usize) {
-        if self.calls.fetch_add(1, Ordering::SeqCst) > 0 {
-            return;
-        }
-        for _ in 0..1_000_000u64 {
-            if self.calls.load(Ordering::SeqCst) > 1 {
-                self.met.store(1, Ordering::SeqCst);
-                return;
-            }
-            thread::yield_now();
-        }
-    }
-}
-
-// The names of the files, of one letter and more.
-fn names(alloc: Global) -> Result<Vec<String>, Fail> {
+fn texts_of(alloc: Global, content: &[u8]) -> Result<Texts, Fail> {
     let mut names = Vec::new(alloc);
-    let mut name = String::new(alloc);
-    for _ in 0..FILES {
-        name.push_str("a")?;
-        names.push(name.clone()?)?;
-    }
-    Ok(names)
-}
-
-// The check lines of the files, and what a check says of them.
-fn texts(rt: &impl Abort, alloc: Global, content: &[u8]) -> Result<(Vec<u8>, Vec<u8>), Fail> {
     let mut lines = Vec::new(alloc);
-    let mut verdicts = Vec::new(alloc);
-    let mut name = String::new(alloc);
+    let mut verdicts = String::new(alloc);
     for n in 0..FILES {
-        name.push_str("a")?;
-        assert!(rt; n * STEP <= content.len());
-        let line = write_line(alloc, &hash(&content[..n * STEP]), name.as_str())?;
+        let name = format!(in alloc; "g{}", n * STEP)?;
+        let bytes = &content[..(n * STEP).min(content.len())];
+        let line = write_line(alloc, &hash(bytes), name.as_str())?;
         lines.extend_from_slice(line.as_slice())?;
-        verdicts.extend_from_slice(name.as_bytes())?;
-        verdicts.extend_from_slice(b": OK\n")?;
+        verdicts.push_str(name.as_str())?;
+        verdicts.push_str(": OK\n")?;
+        names.push(name)?;
     }
-    Ok((lines, verdicts))
+    Ok(Texts {
+        names,
+        lines,
+        verdicts,
+    })
 }
 
 // Sums the files and checks their lines, by so many workers.
 fn assert_runs<R: Abort + Threads + Wait + Sync, G: Gate + Sync>(
     rt: &R,
     alloc: Global,
+    content: &[u8],
+    texts: &Texts,
     workers: u32,
     gate: &G,
-) -> Result<(), Fail>
-    requires { (1 ≤ workers) × (workers ≤ 64) }
-{
-    let content = pattern(alloc, 40_000)?;
-    let (lines, verdicts) = texts(rt, alloc, content.as_slice())?;
-    let mut shelf = GrowingShelf::new(content.as_slice(), STEP, lines.as_slice());
-    let names = names(alloc)?;
-    assert!(rt; names.len() == FILES);
+) -> Result<(), Fail> {
     let mut out = MemorySink::new(alloc);
     let mut err = MemorySink::new(alloc);
+    let mut shelf = LetteredFiles::new(alloc, content, b"", 65_536, false);
     let mut asked = options(2, 0);
     asked.workers = workers;
-    let answer = run_sum(
-        rt, alloc, &mut shelf, &names, &mut out, &mut err, &asked, gate,
+    let names = texts.names.as_slice();
+    let answer = sum_into(
+        rt, alloc, &mut shelf, names, &mut out, &mut err, &asked, gate,
     );
     assert_eq!(rt; answer, Ok(tally(100, 0, 0)), "{workers} workers");
-    assert_eq!(rt; out.bytes(), lines.as_slice(), "{workers} workers");
+    assert_eq!(rt; out.bytes(), texts.lines.as_slice(), "{workers} workers");
     assert!(rt; err.bytes().is_empty());
 
-    let lists = [String::from_str(alloc, "l")?];
-    let mut shelf = GrowingShelf::new(content.as_slice(), STEP, lines.as_slice());
-    let mut out = MemorySink::new(alloc);
-    let mut err = MemorySink::new(alloc);
+    let mut shelf = LetteredFiles::new(alloc, content, texts.lines.as_slice(), 65_536, false);
     let mut asked = check_options(false, 20_000);
     asked.workers = workers;
-    let answer = run_check(
-        rt, alloc, &mut shelf, &lists, &mut out, &mut err, &asked, gate,
-    );
-    assert_eq!(rt; answer, Ok(tally(100, 0, 0)), "{workers} workers");
-    assert_eq!(rt; out.bytes(), verdicts.as_slice(), "{workers} workers");
-    assert!(rt; err.bytes().is_empty());
+    let ended = check(rt, alloc, &mut shelf, &["l"], &asked, gate)?;
+    let verdicts = texts.verdicts.as_bytes();
+    ended.assert(rt, "a list", Ok(tally(100, 0, 0)), verdicts, b"");
     Ok(())
 }
 
 #[test]
-fn a_hundred_files_by_one_worker(rt: HostRuntime) -> Result<(), Fail> {
-    assert_runs(&rt, rt.alloc(), 1, &Yielding)
-}
-
-#[test]
-fn a_hundred_files_by_two_workers(rt: HostRuntime) -> Result<(), Fail> {
-    assert_runs(&rt, rt.alloc(), 2, &Yielding)
-}
-
-#[test]
-fn a_hundred_files_by_four_workers(rt: HostRuntime) -> Result<(), Fail> {
-    assert_runs(&rt, rt.alloc(), 4, &Yielding)
-}
-
-#[test]
-fn a_hundred_files_by_64_workers(rt: HostRuntime) -> Result<(), Fail> {
-    assert_runs(&rt, rt.alloc(), 64, &Yielding)
-}
-
-#[test]
-fn a_hundred_files_behind_an_open_gate(rt: HostRuntime) -> Result<(), Fail> {
-    assert_runs(&rt, rt.alloc(), 4, &OpenGate)
-}
-
-// Waits until so many different workers have come, for at most a million turns.
-#[derive(Drop)]
-struct AllAtOnce {
-    wanted: u32,
-    workers: AtomicU64,
-    is_missed: AtomicBool,
-}
-
-impl AllAtOnce {
-    fn new(wanted: u32) -> AllAtOnce {
-        AllAtOnce {
-            wanted,
-            workers: AtomicU64::new(0),
-            is_missed: AtomicBool::new(false),
-        }
-    }
-
-    fn have_come(&self) -> bool {
-        self.workers.load(Ordering::SeqCst).count_ones() >= self.wanted
-    }
-
-    // All have come, and none of them waited in vain for another.
-    fn have_met(&self) -> bool {
-        self.have_come() && !self.is_missed.load(Ordering::SeqCst)
-    }
-}
-
-impl Gate for AllAtOnce {
-    fn pass(&self, worker: usize, _span: usize) {
-        self.workers.fetch_or(1 << (worker % 64), Ordering::SeqCst);
-        for _ in 0..1_000_000u64 {
-            if self.have_come() || self.is_missed.load(Ordering::SeqCst) {
-                return;
-            }
-            thread::yield_now();
-        }
-        self.is_missed.store(true, Ordering::SeqCst);
-    }
-}
-
-// As many workers hash at the same time as the options say, by either engine.
-#[test]
-fn all_workers_at_once(rt: HostRuntime) -> Result<(), Fail> {
-    let alloc = rt.alloc();
-    let content = pattern(alloc, 1_048_576)?;
-    let line = write_line(alloc, &hash(content.as_slice()), "aa")?;
-    let (names, lists) = (
-        [String::from_str(alloc, "aa")?],
-        [String::from_str(alloc, "l")?],
-    );
-    for workers in [2u32, 3, 4, 64] {
-        let mut shelf = GrowingShelf::new(content.as_slice(), 1_048_576, line.as_slice());
-        let (mut out, mut err) = (MemorySink::new(alloc), MemorySink::new(alloc));
-        let mut asked = options(100, 0);
-        asked.workers = workers;
-        let gate = AllAtOnce::new(workers);
-        let answer = run_sum(
-            &rt, alloc, &mut shelf, &names, &mut out, &mut err, &asked, &gate,
-        );
-        assert_eq!(&rt; answer, Ok(tally(1, 0, 0)));
-        assert_eq!(&rt; out.bytes(), line.as_slice());
-        assert!(&rt; gate.have_met(), "{workers} workers");
-
-        let mut shelf = GrowingShelf::new(content.as_slice(), 1_048_576, line.as_slice());
-        let mut asked = check_options(false, 1_000);
-        asked.workers = workers;
-        let gate = AllAtOnce::new(workers);
-        let answer = run_check(
-            &rt, alloc, &mut shelf, &lists, &mut out, &mut err, &asked, &gate,
-        );
-        assert_eq!(&rt; answer, Ok(tally(1, 0, 0)));
-        assert!(&rt; gate.have_met(), "{workers} workers");
-        assert!(&rt; err.bytes().is_empty());
-    }
-    Ok(())
-}
-
-// Two of three spans are hashed at the same time, and each of them once.
-#[test]
-fn two_at_once(rt: HostRuntime) -> Result<(), Fail> {
+fn a_hundred_files_by_each_number_of_workers(rt: HostRuntime) -> Result<(), Fail> {
     let alloc = rt.alloc();
     let content = pattern(alloc, 40_000)?;
-    let line = write_line(alloc, &hash(content.as_slice()), "aa")?;
-    let mut shelf = GrowingShelf::new(content.as_slice(), 40_000, line.as_slice());
-    let mut out = MemorySink::new(alloc);
-    let mut err = MemorySink::new(alloc);
-    let names = [String::from_str(alloc, "aa")?];
-    let mut asked = options(2, 0);
-    asked.workers = 2;
-    let gate = TwoAtOnce::new();
-    let answer = run_sum(
-        &rt, alloc, &mut shelf, &names, &mut out, &mut err, &asked, &gate,
-    );
-    assert_eq!(&rt; answer, Ok(tally(1, 0, 0)));
-    assert_eq!(&rt; out.bytes(), line.as_slice());
-    assert_eq!(&rt; gate.met.load(Ordering::SeqCst), 1);
-    assert_eq!(&rt; gate.calls.load(Ordering::SeqCst), 3);
+    let content = content.as_slice();
+    let texts = texts_of(alloc, content)?;
+    for workers in [1, 2, 4, 64] {
+        assert_runs(&rt, alloc, content, &texts, workers, &Yielding)?;
+    }
+    assert_runs(&rt, alloc, content, &texts, 4, &OpenGate)
+}
 
-    let mut shelf = GrowingShelf::new(content.as_slice(), 40_000, line.as_slice());
-    let mut out = MemorySink::new(alloc);
-    let lists = [String::from_str(alloc, "l")?];
+// A file: its name, the bytes it has, its digest by the installed b3sum, how many workers hash it, and how many spans
+// of 16 KiB they have. A window has 128 spans; the byte after the third window is one more.
+#[derive(Drop)]
+struct File {
+    name: &'static str,
+    len: u64,
+    digest: &'static str,
+    workers: u32,
+    spans: u64,
+}
+
+const SMALL: File = File {
+    name: "g40000",
+    len: 40_000,
+    digest: "ccd32b4544a24c50fbefb249e10a8fcedc26e2794c79eb8a44ad0631bf07f53f",
+    workers: 2,
+    spans: 3,
+};
+
+const ONE_MEBIBYTE: File = File {
+    name: "g1048576",
+    len: 1_048_576,
+    digest: "74cb441fd087764ca9c3694da742ebe30cbeb3060a17009ca81825c7a8d10343",
+    workers: 4,
+    spans: 64,
+};
+
+const THREE_WINDOWS: File = File {
+    name: "g6291457",
+    len: 6_291_457,
+    digest: "03257e11baab468ebb5b5131dbbf8d50568eed1cf40bb2180c1ae1c552fed2fd",
+    workers: 4,
+    spans: 3 * 128 + 1,
+};
+
+// All workers that are asked for and no more hash at the same time, and each span is hashed once.
+fn assert_met(rt: &impl Abort, gate: &AllAtOnce, file: &File) {
+    let workers = file.workers;
+    assert!(rt; gate.workers.have_met(), "{workers} workers");
+    assert_eq!(rt; gate.workers.guests(), workers);
+    assert_eq!(rt; gate.calls(), file.spans, "{workers} workers");
+}
+
+// By either engine.
+fn assert_at_once<R: Abort + Threads + Wait + Sync>(
+    rt: &R,
+    alloc: Global,
+    file: &File,
+) -> Result<(), Fail> {
+    let content = pattern(alloc, file.len)?;
+    let line = joined(alloc, &[file.digest, "  ", file.name, "\n"])?;
+    let verdict = joined(alloc, &[file.name, ": OK\n"])?;
+    let mut asked = options(100, 0);
+    asked.workers = file.workers;
+    let mut shelf = LetteredFiles::new(alloc, content.as_slice(), b"", 65_536, false);
+    let gate = AllAtOnce::new(file.workers);
+    let ended = sum(rt, alloc, &mut shelf, &[file.name], &asked, &gate)?;
+    ended.assert(rt, file.name, Ok(tally(1, 0, 0)), line.as_bytes(), b"");
+    assert_met(rt, &gate, file);
+
     let mut asked = check_options(false, 1_000);
-    asked.workers = 2;
-    let gate = TwoAtOnce::new();
-    let answer = run_check(
-        &rt, alloc, &mut shelf, &lists, &mut out, &mut err, &asked, &gate,
-    );
-    assert_eq!(&rt; answer, Ok(tally(1, 0, 0)));
-    assert_eq!(&rt; out.bytes(), b"aa: OK\n".as_slice());
-    assert_eq!(&rt; gate.met.load(Ordering::SeqCst), 1);
-    assert_eq!(&rt; gate.calls.load(Ordering::SeqCst), 3);
-    assert!(&rt; err.bytes().is_empty());
+    asked.workers = file.workers;
+    let mut shelf = LetteredFiles::new(alloc, content.as_slice(), line.as_bytes(), 65_536, false);
+    let gate = AllAtOnce::new(file.workers);
+    let ended = check(rt, alloc, &mut shelf, &["l"], &asked, &gate)?;
+    ended.assert(rt, file.name, Ok(tally(1, 0, 0)), verdict.as_bytes(), b"");
+    assert_met(rt, &gate, file);
     Ok(())
 }
 
-// A window has 128 spans, and the byte after the third window is one more.
 #[test]
-fn each_span_of_three_windows_is_hashed_once(rt: HostRuntime) -> Result<(), Fail> {
-    let alloc = rt.alloc();
-    let content = pattern(alloc, 3 * 2_097_152 + 1)?;
-    let mut shelf = GrowingShelf::new(content.as_slice(), 3 * 2_097_152 + 1, b"");
-    let mut out = MemorySink::new(alloc);
-    let mut err = MemorySink::new(alloc);
-    let names = [String::from_str(alloc, "aa")?];
-    let gate = TwoAtOnce::new();
-    let answer = run_sum(
-        &rt,
-        alloc,
-        &mut shelf,
-        &names,
-        &mut out,
-        &mut err,
-        &options(100, 0),
-        &gate,
-    );
-    assert_eq!(&rt; answer, Ok(tally(1, 0, 0)));
-    assert_eq!(&rt; gate.calls.load(Ordering::SeqCst), 3 * 128 + 1);
-    assert!(&rt; err.bytes().is_empty());
+fn all_workers_at_once(rt: HostRuntime) -> Result<(), Fail> {
+    assert_at_once(&rt, rt.alloc(), &SMALL)?;
+    assert_at_once(&rt, rt.alloc(), &THREE_WINDOWS)?;
+    for workers in [2, 3, 4, 64] {
+        let file = File {
+            workers,
+            ..ONE_MEBIBYTE
+        };
+        assert_at_once(&rt, rt.alloc(), &file)?;
+    }
     Ok(())
 }

@@ -1,6 +1,6 @@
 // Whole calls, from their arguments to their texts and their status.
 
-ghost use Rattle.std.specs.Prelude.{◌≡◌};
+ghost use Rattle.std.specs.Prelude.{◌≡◌, IfOk};
 
 use crate::call::run_call;
 use b3_board::OpenGate;
@@ -227,10 +227,10 @@ fn a_list_is_checked_and_good_lines_passed_over(rt: HostRuntime) -> Result<(), A
     assert_call(&rt, alloc, &mut shelf, &words, b"y: FAILED\n", err, 1)
 }
 
-// All the words of a check, with one list that is empty, and with the line of a run fault.
-#[test]
-fn a_check_with_all_its_words(rt: HostRuntime) -> Result<(), AllocError> {
-    let alloc = rt.alloc();
+// A list of a right line, a missing name and an empty line, and one that is empty.
+fn two_lists(alloc: Global) -> Result<MemoryShelf, AllocError>
+    ensures { IfOk result (λ shelf. ⟦<MemoryShelf as Shelf>⟧.failures shelf ≡ 0) }
+{
     let mut shelf = MemoryShelf::new(alloc);
     shelf.put("x", b"\0")?;
     shelf.put("empty", b"")?;
@@ -239,113 +239,128 @@ fn a_check_with_all_its_words(rt: HostRuntime) -> Result<(), AllocError> {
         b"2d3adedff11b61f14c886e35afa036736dcd87a74d27b5c1510225d0f592e213  x\n\
           2d3adedff11b61f14c886e35afa036736dcd87a74d27b5c1510225d0f592e213  none\n\n",
     )?;
+    Ok(shelf)
+}
+
+#[test]
+fn a_check_with_all_its_words(rt: HostRuntime) -> Result<(), AllocError> {
+    let alloc = rt.alloc();
     let words = ["-c", "-w", "--ignore-missing", "--strict", "l", "empty"];
     let err = b"b3sum: l: line 3: empty line\n\
                 b3sum: empty: no file was verified\n\
                 b3sum: empty: no check line found\n\
                 b3sum: WARNING: 1 computed checksum did NOT match\n";
+    let mut shelf = two_lists(alloc)?;
     assert_call(&rt, alloc, &mut shelf, &words, b"x: OK\n", err, 1)?;
-    let words = ["-c", "--status", "--ignore-missing", "--strict", "empty"];
-    let mut shelf = MemoryShelf::new(alloc);
-    shelf.put("empty", b"")?;
+    let words = [
+        "-c",
+        "--status",
+        "--ignore-missing",
+        "--strict",
+        "l",
+        "empty",
+    ];
+    let mut shelf = two_lists(alloc)?;
     assert_call(&rt, alloc, &mut shelf, &words, b"", b"", 1)
 }
 
+// Words that ask for what cannot be done, and what is said of them.
+const REFUSED: [(&[&str], &str); 27] = [
+    (
+        &["--check", "--raw", "--keyed"],
+        "b3sum: --check cannot be used with --keyed\n",
+    ),
+    (
+        &["-c", "-l", "1", "--derive-key", "c"],
+        "b3sum: --check cannot be used with --derive-key\n",
+    ),
+    (
+        &["-c", "--raw", "-l", "1"],
+        "b3sum: --check cannot be used with --length\n",
+    ),
+    (
+        &["-c", "--no-names", "--raw"],
+        "b3sum: --check cannot be used with --raw\n",
+    ),
+    (
+        &["-c", "--no-names"],
+        "b3sum: --check cannot be used with --no-names\n",
+    ),
+    (
+        &["--keyed", "--derive-key", "c"],
+        "b3sum: --keyed cannot be used with --derive-key\n",
+    ),
+    (
+        &["--keyed", "--derive-key", "c", "--quiet"],
+        "b3sum: --keyed cannot be used with --derive-key\n",
+    ),
+    (&["--quiet"], "b3sum: --quiet needs --check\n"),
+    (
+        &["--quiet", "--raw", "e", "e"],
+        "b3sum: --quiet needs --check\n",
+    ),
+    (&["--raw", "e", "e"], "b3sum: --raw takes one input\n"),
+    (
+        &["--raw", "--keyed", "-", "e"],
+        "b3sum: --raw takes one input\n",
+    ),
+    (
+        &["--check", "--tag", "--seek", "1"],
+        "b3sum: --check cannot be used with --seek\n",
+    ),
+    (
+        &["--check", "--seek", "0", "-l", "32"],
+        "b3sum: --check cannot be used with --length\n",
+    ),
+    (
+        &["--check", "--tag", "--no-names"],
+        "b3sum: --check cannot be used with --no-names\n",
+    ),
+    (
+        &["--check", "--tag"],
+        "b3sum: --check cannot be used with --tag\n",
+    ),
+    (
+        &["--tag", "--raw", "--no-names"],
+        "b3sum: --tag cannot be used with --raw\n",
+    ),
+    (
+        &["--tag", "--no-names", "--seek", "18446744073709551615"],
+        "b3sum: --tag cannot be used with --no-names\n",
+    ),
+    (
+        &["--keyed", "--tag", "--raw"],
+        "b3sum: --keyed needs files\n",
+    ),
+    (&["--keyed"], "b3sum: --keyed needs files\n"),
+    (&["--keyed", "e", "-"], "b3sum: --keyed needs files\n"),
+    (
+        &["--ignore-missing", "--status", "--strict", "-w"],
+        "b3sum: --ignore-missing needs --check\n",
+    ),
+    (
+        &["-w", "--strict", "--status"],
+        "b3sum: --status needs --check\n",
+    ),
+    (&["-w", "--strict"], "b3sum: --strict needs --check\n"),
+    (&["-w", "e"], "b3sum: --warn needs --check\n"),
+    (
+        &["--ignore-missing", "--quiet"],
+        "b3sum: --quiet needs --check\n",
+    ),
+    (
+        &["--status", "--seek", "18446744073709551615"],
+        "b3sum: --seek and --length pass the end of the output\n",
+    ),
+    (
+        &["--check", "--strict", "--tag"],
+        "b3sum: --check cannot be used with --tag\n",
+    ),
+];
+
 #[test]
 fn words_that_ask_for_nothing_that_can_be_done(rt: HostRuntime) -> Result<(), AllocError> {
-    let rows: [(&[&str], &str); 27] = [
-        (
-            &["--check", "--raw", "--keyed"],
-            "b3sum: --check cannot be used with --keyed\n",
-        ),
-        (
-            &["-c", "-l", "1", "--derive-key", "c"],
-            "b3sum: --check cannot be used with --derive-key\n",
-        ),
-        (
-            &["-c", "--raw", "-l", "1"],
-            "b3sum: --check cannot be used with --length\n",
-        ),
-        (
-            &["-c", "--no-names", "--raw"],
-            "b3sum: --check cannot be used with --raw\n",
-        ),
-        (
-            &["-c", "--no-names"],
-            "b3sum: --check cannot be used with --no-names\n",
-        ),
-        (
-            &["--keyed", "--derive-key", "c"],
-            "b3sum: --keyed cannot be used with --derive-key\n",
-        ),
-        (
-            &["--keyed", "--derive-key", "c", "--quiet"],
-            "b3sum: --keyed cannot be used with --derive-key\n",
-        ),
-        (&["--quiet"], "b3sum: --quiet needs --check\n"),
-        (
-            &["--quiet", "--raw", "e", "e"],
-            "b3sum: --quiet needs --check\n",
-        ),
-        (&["--raw", "e", "e"], "b3sum: --raw takes one input\n"),
-        (
-            &["--raw", "--keyed", "-", "e"],
-            "b3sum: --raw takes one input\n",
-        ),
-        (
-            &["--check", "--tag", "--seek", "1"],
-            "b3sum: --check cannot be used with --seek\n",
-        ),
-        (
-            &["--check", "--seek", "0", "-l", "32"],
-            "b3sum: --check cannot be used with --length\n",
-        ),
-        (
-            &["--check", "--tag", "--no-names"],
-            "b3sum: --check cannot be used with --no-names\n",
-        ),
-        (
-            &["--check", "--tag"],
-            "b3sum: --check cannot be used with --tag\n",
-        ),
-        (
-            &["--tag", "--raw", "--no-names"],
-            "b3sum: --tag cannot be used with --raw\n",
-        ),
-        (
-            &["--tag", "--no-names", "--seek", "18446744073709551615"],
-            "b3sum: --tag cannot be used with --no-names\n",
-        ),
-        (
-            &["--keyed", "--tag", "--raw"],
-            "b3sum: --keyed needs files\n",
-        ),
-        (&["--keyed"], "b3sum: --keyed needs files\n"),
-        (&["--keyed", "e", "-"], "b3sum: --keyed needs files\n"),
-        (
-            &["--ignore-missing", "--status", "--strict", "-w"],
-            "b3sum: --ignore-missing needs --check\n",
-        ),
-        (
-            &["-w", "--strict", "--status"],
-            "b3sum: --status needs --check\n",
-        ),
-        (&["-w", "--strict"], "b3sum: --strict needs --check\n"),
-        (&["-w", "e"], "b3sum: --warn needs --check\n"),
-        (
-            &["--ignore-missing", "--quiet"],
-            "b3sum: --quiet needs --check\n",
-        ),
-        (
-            &["--status", "--seek", "18446744073709551615"],
-            "b3sum: --seek and --length pass the end of the output\n",
-        ),
-        (
-            &["--check", "--strict", "--tag"],
-            "b3sum: --check cannot be used with --tag\n",
-        ),
-    ];
-    for (words, err) in &rows {
+    for (words, err) in &REFUSED {
         assert_piped!(&rt, b"", words, b"", err.as_bytes(), 2)?;
     }
     Ok(())
@@ -406,5 +421,11 @@ fn an_output_that_is_full(rt: HostRuntime) -> Result<(), AllocError> {
     let mut shelf = FileShelf::new(&rt, b"".as_slice());
     assert_cut_short(&rt, &mut shelf, &["--help"])?;
     let mut shelf = FileShelf::new(&rt, b"".as_slice());
-    assert_cut_short(&rt, &mut shelf, &["--version"])
+    assert_cut_short(&rt, &mut shelf, &["--version"])?;
+    let mut shelf = two_lists(rt.alloc())?;
+    assert_cut_short(
+        &rt,
+        &mut shelf,
+        &["-c", "-w", "--ignore-missing", "--strict", "l"],
+    )
 }

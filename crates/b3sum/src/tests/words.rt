@@ -40,36 +40,35 @@ fn no_words(rt: HostRuntime) -> Result<(), Stop> {
     Ok(())
 }
 
+const ALL: [&str; 23] = [
+    "-c",
+    "a",
+    "--keyed",
+    "--derive-key",
+    "a context",
+    "-l",
+    "0",
+    "--seek",
+    "7",
+    "--raw",
+    "--no-names",
+    "--tag",
+    "--quiet",
+    "--ignore-missing",
+    "--status",
+    "--strict",
+    "-w",
+    "--num-threads",
+    "0",
+    "--no-mmap",
+    "--",
+    "-b",
+    "-",
+];
+
 #[test]
 fn all_words(rt: HostRuntime) -> Result<(), Stop> {
-    let words = read(
-        rt.alloc(),
-        &[
-            "-c",
-            "a",
-            "--keyed",
-            "--derive-key",
-            "a context",
-            "-l",
-            "0",
-            "--seek",
-            "7",
-            "--raw",
-            "--no-names",
-            "--tag",
-            "--quiet",
-            "--ignore-missing",
-            "--status",
-            "--strict",
-            "-w",
-            "--num-threads",
-            "0",
-            "--no-mmap",
-            "--",
-            "-b",
-            "-",
-        ],
-    )?;
+    let words = read(rt.alloc(), &ALL)?;
     assert!(rt; words.check && words.keyed && words.raw && words.no_names && words.quiet);
     assert!(rt; words.tag && words.ignore_missing && words.status && words.strict && words.warn);
     assert_eq!(rt; words.seek, Some(7));

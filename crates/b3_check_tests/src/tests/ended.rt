@@ -1,0 +1,211 @@
+// Runs, and what they came to. The tests call the engines through here alone, so that none has their contracts among
+// the facts from which it is proved.
+
+ghost use Rattle.std.specs.Prelude.{◌≡◌, ◌^◌, ◌<◌, ◌≤◌, IfOk};
+
+use b3_board::{Gate, OpenGate};
+use b3_check::{
+    CheckOptions, Form, MemoryShelf, MemorySink, RunFault, Shelf, Sink, SumOptions, Tally,
+    run_check, run_sum,
+};
+use std::alloc::{AllocError, Global};
+use std::process::Abort;
+use std::sync::Wait;
+use std::test::Fail;
+use std::thread::Threads;
+
+/// What a run answered, and what it wrote.
+#[derive(Drop)]
+pub struct Ended {
+    pub answer: Result<Tally, RunFault>,
+    pub out: Vec<u8>,
+    pub err: Vec<u8>,
+}
+
+impl Ended {
+    /// The run of this row answered this, and wrote just these texts.
+    pub fn assert(
+        &self,
+        rt: &impl Abort,
+        row: &str,
+        answer: Result<Tally, RunFault>,
+        out: &[u8],
+        err: &[u8],
+    ) {
+        assert_eq!(rt; self.answer, answer, "{row}");
+        assert_eq!(rt; self.out.as_slice(), out, "{row}");
+        assert_eq!(rt; self.err.as_slice(), err, "{row}");
+    }
+}
+
+fn ended_of(
+    alloc: Global,
+    answer: Result<Tally, RunFault>,
+    out: &MemorySink,
+    err: &MemorySink,
+) -> Result<Ended, Fail> {
+    Ok(Ended {
+        answer,
+        out: Vec::from_slice(alloc, out.bytes())?,
+        err: Vec::from_slice(alloc, err.bytes())?,
+    })
+}
+
+fn strings(alloc: Global, names: &[&str]) -> Result<Vec<String>, Fail> {
+    let mut strings = Vec::new(alloc);
+    for name in names {
+        strings.push(String::from_str(alloc, name)?)?;
+    }
+    Ok(strings)
+}
+
+// The bounds that all tests keep to.
+fn assert_bounds(rt: &impl Abort, workers: u32, turns: u64, largest: u64)
+    ensures workers { (1 ≤ workers) × (workers ≤ 64) }
+    ensures turns { (1 ≤ turns) × (turns ≤ 2 ^ 40) }
+    ensures largest { largest ≤ 2 ^ 30 }
+{
+    assert!(rt; 1 <= workers && workers <= 64);
+    assert!(rt; 1 <= turns && turns <= 1_000_000_000);
+    assert!(rt; largest <= 1_000_000);
+}
+
+/// Sums names into these sinks.
+pub fn sum_into<
+    R: Abort + Threads + Wait + Sync,
+    S: Shelf + Send + Sync,
+    O: Sink,
+    E: Sink,
+    G: Gate + Sync,
+>(
+    rt: &R,
+    alloc: Global,
+    shelf: &mut S,
+    names: &[String],
+    out: &mut O,
+    err: &mut E,
+    options: &SumOptions,
+    gate: &G,
+) -> Result<Tally, RunFault>
+    requires shelf { S.failures shelf.old < 2 ^ 63 }
+    requires out { O.failures out.old < 2 ^ 63 }
+    requires err { E.failures err.old < 2 ^ 63 }
+{
+    assert!(rt; names.len() <= 10_000);
+    assert!(rt; !(options.form == Form::Raw && names.len() != 1));
+    assert!(rt; options.length <= 1_048_576 && options.seek <= 1_000);
+    assert_bounds(rt, options.workers, options.turns, options.largest);
+    run_sum(rt, alloc, shelf, names, out, err, options, gate)
+}
+
+/// Sums names of a shelf.
+pub fn sum<R: Abort + Threads + Wait + Sync, S: Shelf + Send + Sync, G: Gate + Sync>(
+    rt: &R,
+    alloc: Global,
+    shelf: &mut S,
+    names: &[&str],
+    options: &SumOptions,
+    gate: &G,
+) -> Result<Ended, Fail>
+    requires { S.failures shelf.old < 2 ^ 63 }
+{
+    let names = strings(alloc, names)?;
+    let mut out = MemorySink::new(alloc);
+    let mut err = MemorySink::new(alloc);
+    let answer = sum_into(rt, alloc, shelf, &names, &mut out, &mut err, options, gate);
+    ended_of(alloc, answer, &out, &err)
+}
+
+/// Checks lists, and writes into these sinks.
+pub fn check_into<
+    R: Abort + Threads + Wait + Sync,
+    S: Shelf + Send + Sync,
+    O: Sink,
+    E: Sink,
+    G: Gate + Sync,
+>(
+    rt: &R,
+    alloc: Global,
+    shelf: &mut S,
+    lists: &[String],
+    out: &mut O,
+    err: &mut E,
+    options: &CheckOptions,
+    gate: &G,
+) -> Result<Tally, RunFault>
+    requires shelf { S.failures shelf.old < 2 ^ 63 }
+    requires out { O.failures out.old < 2 ^ 63 }
+    requires err { E.failures err.old < 2 ^ 63 }
+{
+    assert!(rt; lists.len() <= 10_000);
+    assert_bounds(rt, options.workers, options.turns, options.largest);
+    run_check(rt, alloc, shelf, lists, out, err, options, gate)
+}
+
+/// Checks lists of a shelf.
+pub fn check<R: Abort + Threads + Wait + Sync, S: Shelf + Send + Sync, G: Gate + Sync>(
+    rt: &R,
+    alloc: Global,
+    shelf: &mut S,
+    lists: &[&str],
+    options: &CheckOptions,
+    gate: &G,
+) -> Result<Ended, Fail>
+    requires { S.failures shelf.old < 2 ^ 63 }
+{
+    let lists = strings(alloc, lists)?;
+    let mut out = MemorySink::new(alloc);
+    let mut err = MemorySink::new(alloc);
+    let answer = check_into(rt, alloc, shelf, &lists, &mut out, &mut err, options, gate);
+    ended_of(alloc, answer, &out, &err)
+}
+
+// A shelf in memory, of which nothing was asked yet.
+#[derive(Drop)]
+struct NewShelf {
+    shelf: MemoryShelf,
+    ghost unasked: { ⟦<MemoryShelf as Shelf>⟧.failures shelf ≡ 0 },
+}
+
+impl NewShelf {
+    fn put(&mut self, name: &str, content: &[u8]) -> Result<(), AllocError> {
+        self.shelf.put(name, content)
+    }
+}
+
+// Files in memory.
+fn shelf_of(alloc: Global, files: &[(&str, &[u8])]) -> Result<MemoryShelf, Fail>
+    ensures { IfOk result (λ shelf. ⟦<MemoryShelf as Shelf>⟧.failures shelf ≡ 0) }
+{
+    let mut new = NewShelf {
+        shelf: MemoryShelf::new(alloc),
+    };
+    for (name, content) in files {
+        new.put(*name, *content)?;
+    }
+    Ok(new.shelf)
+}
+
+/// Sums names of these files in memory, behind an open gate.
+pub fn sum_files<R: Abort + Threads + Wait + Sync>(
+    rt: &R,
+    alloc: Global,
+    files: &[(&str, &[u8])],
+    names: &[&str],
+    options: &SumOptions,
+) -> Result<Ended, Fail> {
+    let mut shelf = shelf_of(alloc, files)?;
+    sum(rt, alloc, &mut shelf, names, options, &OpenGate)
+}
+
+/// Checks lists of these files in memory, behind an open gate.
+pub fn check_files<R: Abort + Threads + Wait + Sync>(
+    rt: &R,
+    alloc: Global,
+    files: &[(&str, &[u8])],
+    lists: &[&str],
+    options: &CheckOptions,
+) -> Result<Ended, Fail> {
+    let mut shelf = shelf_of(alloc, files)?;
+    check(rt, alloc, &mut shelf, lists, options, &OpenGate)
+}
