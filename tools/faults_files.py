@@ -5,9 +5,9 @@ import re
 import resource
 import shutil
 import subprocess
-import threading
 import time
 from contextlib import suppress
+from itertools import product
 from pathlib import Path
 
 from blake3 import Tree, digest
@@ -21,10 +21,14 @@ LARGE = "8c5cb1562ffe2af8b4c8c7f0b4395c518a027f6d97c4bfc950f91eaa77e00e90"
 # A length that no 32 bits hold; and the digest of so many bytes, all 0, by another implementation.
 HUGE_LEN = (5 << 30) + 1
 HUGE = "f7b8b344dd849ce2b499c285a4865025866ba33ff78204c332412a9347b1d6c6"
-# Lengths around which the program goes another way: a thread more, half a window, a window, two.
-WAYS = (1 << 17, 1 << 18, 1 << 19, 1 << 20, 1 << 21, 1 << 22)
-# The length of files that change meanwhile: all workers read one of them.
-CHANGING = 5 << 19
+PIECE = 1 << 18
+# Lengths around which the program goes another way. What comes by a pipe is read 64 KiB at a time. Of a file that is
+# longer than a piece, and alone, all workers read pieces: two, three and more of them.
+WAYS = (1 << 16, PIECE, 2 * PIECE, 3 * PIECE, 4 * PIECE, 1 << 22)
+# The length of files that change meanwhile: all workers read one that is alone, and one worker each of many.
+CHANGING = 10 * PIECE
+# A plain file that tells 4,096 bytes and has fewer.
+SHORTER = "/sys/devices/system/cpu/possible"
 
 
 def files_that_cannot_be_read(faults):
@@ -67,6 +71,12 @@ def files_of_every_kind(faults):
         faults.row(f"a file of {length} bytes", [f"of{length}"], f"{expected}  of{length}\n")
     version = Path("/proc/version").read_bytes()
     faults.row("a file that tells no size", ["/proc/version"], f"{digest(version)}  /proc/version\n")
+    if os.access(SHORTER, os.R_OK):
+        line = f"{digest(Path(SHORTER).read_bytes())}  {SHORTER}\n"
+        faults.row("a file that is shorter than it tells", [SHORTER], line)
+        faults.row("one among others", ["e", SHORTER, "z"], f"{Z0}  e\n{line}{Z1}  z\n")
+    else:
+        faults.skip("a file that is shorter than it tells", f"there is no {SHORTER}")
     faults.row("a link to a file", ["link"], f"{Z0}  link\n")
     faults.row("a path with a folder", ["./folder/../z"], f"{Z1}  ./folder/../z\n")
     faults.row("the empty device", ["/dev/null"], f"{Z0}  /dev/null\n")
@@ -94,9 +104,10 @@ def long_files(faults):
             expected = tree.digest(length)
             Path("long").write_bytes(content[:length])
             for threads in ("1", "2", "4", "64"):
-                name = f"{length} bytes, {threads} threads"
-                faults.row(name, ["--num-threads", threads, "long", "e"], f"{expected}  long\n{Z0}  e\n")
-                faults.row(f"{name}, by a pipe", ["--num-threads", threads], f"{expected}  -\n", input=content[:length])
+                name, words = f"{length} bytes, {threads} threads", ["--num-threads", threads]
+                faults.row(name, [*words, "long"], f"{expected}  long\n")
+                faults.row(f"{name}, beside another", [*words, "long", "e"], f"{expected}  long\n{Z0}  e\n")
+                faults.row(f"{name}, by a pipe", words, f"{expected}  -\n", input=content[:length])
 
 
 def number_of_threads(faults):
@@ -112,49 +123,60 @@ def number_of_threads(faults):
         faults.compare(f"{told} threads, of which {most} were seen", (None, None, most), ("", "", told))
 
 
+def lines_of_one(digests, name, times):
+    """So many lines of one name, each with one of the digests."""
+    return re.compile(f"(({'|'.join(digests)})  {name}\n){{{times}}}".encode())
+
+
 def growing_files(faults):
     """A file that grows while it is read has the digest of what it held at one moment."""
     page, begins = 4096, 1 << 16
     tree = Tree(PATTERN)
     digests = [tree.digest(length) for length in range(begins, len(PATTERN) + 1, page)]
-    due = re.compile(f"({'|'.join(digests)})  growing\n".encode())
 
-    def grow():
+    def grow(_):
         with open("growing", "ab", buffering=0) as growing:
             for start in range(begins, len(PATTERN), page):
                 growing.write(PATTERN[start : start + page])
                 time.sleep(0.00002)
 
-    for turn in range(1, 21):
+    for turn, times in product(range(1, 21), (1, 2)):
         Path("growing").write_bytes(PATTERN[:begins])
-        writer = threading.Thread(target=grow)
-        writer.start()
-        faults.row(f"a file that grows, turn {turn}", ["growing"], due)
-        writer.join()
+        with meanwhile(grow):
+            faults.row(f"a file that grows, turn {turn}, named {times} times", ["growing"] * times,
+                       lines_of_one(digests, "growing", times))
 
 
 def changing_files(faults):
     """Each line has the digest of what one file held, also where others are put in its place, cut it or remove it."""
     contents = [os.urandom(CHANGING) for _ in range(2)]
     trees = [Tree(content) for content in contents]
+    replaced_files(faults, contents, trees)
+    cut_files(faults, contents[0], trees[0])
+    removed_files(faults, contents[0], trees[0].digest(CHANGING))
+
+
+def replaced_files(faults, contents, trees):
     for length in (1 << 20, CHANGING):
         for name, content in zip(("one", "other"), contents):
             Path(name).write_bytes(content[:length])
         shutil.copy("other", "next")
         os.replace("next", "replaced")
-        either = "|".join(tree.digest(length) for tree in trees)
-        due = re.compile(f"(({either})  replaced\n){{20}}".encode())
+        either = [tree.digest(length) for tree in trees]
         with meanwhile(replacing):
-            for turn in range(1, 6):
-                faults.row(f"a file of {length} bytes that is replaced, turn {turn}", ["replaced"] * 20, due)
+            for turn, times in product(range(1, 6), (1, 20)):
+                faults.row(f"a file of {length} bytes that is replaced, turn {turn}, named {times} times",
+                           ["replaced"] * times, lines_of_one(either, "replaced", times))
+
+
+def cut_files(faults, content, tree):
     page, left = 4096, 1 << 20
-    digests = [trees[0].digest(length) for length in range(left, CHANGING + 1, page)]
-    due = re.compile(f"({'|'.join(digests)})  cut\n".encode())
-    for turn in range(1, 21):
-        Path("cut").write_bytes(contents[0])
-        with meanwhile(lambda _: (time.sleep(turn * 0.0002), os.truncate("cut", left))):
-            faults.row(f"a file that is cut, turn {turn}", ["cut"], due)
-    removed_files(faults, contents[0], trees[0].digest(CHANGING))
+    digests = [tree.digest(length) for length in range(left, CHANGING + 1, page)]
+    for turn, (times, pause) in product(range(1, 21), ((1, 0.0002), (20, 0.0008))):
+        Path("cut").write_bytes(content)
+        with meanwhile(lambda _: (time.sleep(turn * pause), os.truncate("cut", left))):
+            faults.row(f"a file that is cut, turn {turn}, named {times} times", ["cut"] * times,
+                       lines_of_one(digests, "cut", times))
 
 
 def removed_files(faults, content, expected):

@@ -5,6 +5,7 @@ import resource
 import shutil
 from pathlib import Path
 
+from blake3 import digest
 from faults_rows import Z0, Z1, Faults, limited, warning
 
 
@@ -54,6 +55,21 @@ def malformed_lines(faults):
                          "bad escape": f"\\BLAKE3 (a\\qb) = {Z0}", "bad character": f"BLAKE3 (e\0) = {Z0}"}.items():
         said = f"b3sum: line 1: {reason}\n" + warning(1)
         faults.row(f"tagged, {reason}", ["-c"], "e: OK\n", said, 1, input=f"{line}\nBLAKE3 (e) = {Z0}".encode())
+
+
+def lists_of_lists(faults):
+    """Lists that name each other and themselves: there they are files like any other."""
+    Path("first").write_text(f"{Z0}  second\n{Z1}  z\n")
+    Path("second").write_text(f"{digest(Path('first').read_bytes())}  first\n{Z0}  second\n")
+    told = "second: FAILED\nz: OK\n", "first: OK\nsecond: FAILED\n"
+    for threads in ("1", "2", "4"):
+        words = ["--num-threads", threads, "-c"]
+        name = f"lists that name each other, {threads} threads"
+        faults.row(name, [*words, "first", "second"], "".join(told), warning(2), 1)
+        faults.row(f"{name}, one of them twice", [*words, "second", "first", "second"], told[1] + told[0] + told[1],
+                   warning(3), 1)
+        faults.row(f"{name}, and input between", [*words, "first", "-", "second"], "e: OK\n".join(told), warning(2), 1,
+                   input=f"{Z0}  e\n".encode())
 
 
 def missing_files(faults):

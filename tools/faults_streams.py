@@ -1,4 +1,4 @@
-"""Rows of tools/faults: outputs that fail, readers that go away, and input that is slow in coming."""
+"""Rows of tools/faults: outputs that fail, readers that go away, and what comes by pipes, files and terminals."""
 
 import os
 import re
@@ -6,7 +6,7 @@ import select
 import subprocess
 import threading
 import time
-from contextlib import suppress
+from contextlib import contextmanager, suppress
 from pathlib import Path
 
 from blake3 import digest
@@ -14,6 +14,8 @@ from faults_rows import CANNOT_WRITE, KEY, KEYED_Z0, PATTERN, Z0, Z1, Z1025, clo
 
 # A plain file that tells no length, and whose end does not come.
 KERNEL_LOG = "/proc/kmsg"
+# What is typed where a terminal's input ends.
+END_OF_INPUT = b"\x04"
 
 
 def full_and_closed_outputs(faults):
@@ -60,6 +62,51 @@ def a_reader_that_goes_away(faults):
     run.stdout.close()
     err = run.stderr.read()
     faults.compare("a reader that takes one byte", (first, err, run.wait()), (Z0[0], CANNOT_WRITE, 1))
+
+
+def input_in_the_middle(faults):
+    """Input among files, by a pipe and as a plain file, which is read from where it stands on to its end."""
+    for length in (1, 1025, len(PATTERN)):
+        among = f"{Z0}  e\n{digest(PATTERN[:length])}  -\n{Z1}  z\n"
+        faults.row(f"{length} bytes by a pipe among files", ["e", "-", "z"], among, input=PATTERN[:length])
+    for length, place in ((1025, 1), (1025, 1025), (len(PATTERN), 1), (len(PATTERN), 1 << 18)):
+        Path("placed").write_bytes(PATTERN[:length])
+        line = f"{digest(PATTERN[place:length])}  -\n"
+        for words, out in (([], line), (["e", "-", "z"], f"{Z0}  e\n{line}{Z1}  z\n")):
+            name = f"input that is a file of {length} bytes, from {place} on, {words}"
+            with open("placed", "rb", buffering=0) as given:
+                given.seek(place)
+                faults.row(name, words, out, stdin=given)
+                faults.compare(f"{name}: where it is left", (None, None, given.tell()), ("", "", length))
+    Path("placed").write_text(f"x\n{Z0}  e\n")
+    with open("placed", "rb", buffering=0) as given:
+        given.seek(2)
+        faults.row("a list from its second line on", ["-c"], "e: OK\n", stdin=given)
+
+
+@contextmanager
+def terminal(typed):
+    """A terminal at which this was typed, and then the end of input; and its name."""
+    keyboard, screen = os.openpty()
+    os.write(keyboard, typed + END_OF_INPUT)
+    yield screen, os.ttyname(screen)
+    os.close(keyboard)
+    os.close(screen)
+
+
+def terminals(faults):
+    """What is typed at a terminal, as input, as a file and as a list."""
+    typed = b"typed\n"
+    digits = digest(typed)
+    with terminal(typed) as (screen, _):
+        faults.row("a terminal as input", [], f"{digits}  -\n", stdin=screen)
+    with terminal(typed) as (_, name):
+        faults.row("a terminal among files", ["e", name, "z"], f"{Z0}  e\n{digits}  {name}\n{Z1}  z\n")
+    with terminal(typed) as (_, name):
+        faults.row("a terminal in a list", ["-c"], f"e: OK\n{name}: OK\n",
+                   input=f"{Z0}  e\n{digits}  {name}\n".encode())
+    with terminal(f"{Z0}  e\n".encode()) as (screen, _):
+        faults.row("a list from a terminal", ["-c"], "e: OK\n", stdin=screen)
 
 
 def slow_writers(faults):
