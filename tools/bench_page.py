@@ -41,6 +41,25 @@ class Row:
         return self.ratio is None or self.wanted is not None and self.ratio > self.wanted
 
 
+@dataclass
+class Memory:
+    """A run: its greatest resident memory in KiB by ./b3sum and by the installed program, and the most that is wanted
+    of ours."""
+    name: str
+    mine: int | None
+    theirs: int | None
+    wanted: int | None
+
+    @property
+    def is_taken(self):
+        return bool(self.mine and self.theirs)
+
+    @property
+    def is_missed(self):
+        """Whether it took more than is wanted, or a run failed."""
+        return not self.is_taken or self.wanted is not None and self.mine > self.wanted
+
+
 def machine():
     """The processor and how many of them, and the memory."""
     model = re.search(r"^model name\s*: (.*)$", Path("/proc/cpuinfo").read_text(), re.MULTILINE)
@@ -55,6 +74,15 @@ def table(rows):
     for row in rows:
         times = f"{row.mine:,.1f} | {row.theirs:,.1f} | {row.ratio:.2f}"
         lines.append(f"| {row.name} | {row.beside} | {times} | {row.wanted or ''} |")
+    return "\n".join(lines)
+
+
+def memory_table(peaks):
+    """The memory of runs as docs/BENCH.md has it."""
+    lines = ["| Greatest memory of a run | ours, KiB | installed, KiB | wanted |", "|---|---|---|---|"]
+    for peak in peaks:
+        wanted = f"{peak.wanted:,}" if peak.wanted else ""
+        lines.append(f"| {peak.name} | {peak.mine:,} | {peak.theirs:,} | {wanted} |")
     return "\n".join(lines)
 
 
@@ -96,13 +124,14 @@ def put(page, text):
     path.write_text(marks.sub(lambda found: f"{found[1]}{text}\n{found[2]}", path.read_text()))
 
 
-def write(rows, load, notes):
-    """Writes the picture and both tables. What stands with the table of docs/BENCH.md: how many runs wanted a processor
-    before the first of ours, and some lines of notes."""
+def write(rows, load, peaks, version):
+    """Writes the picture and the tables. What stands with those of docs/BENCH.md: how many runs wanted a processor
+    before the first of ours, and the version of the installed program."""
     beside = [row for row in rows if row.beside == INSTALLED]
     (ROOT / "docs/bench.svg").write_text(picture(beside))
     head = f"Measured on {machine()}; {load:.1f} other runs wanted a processor in the minute before."
-    told = "\n".join([head, "", table(rows), "", "![The ratios](bench.svg)", "", *notes])
+    last = f"The installed program is {version}. The files that it maps are counted as its memory."
+    told = "\n".join([head, "", table(rows), "", "![The ratios](bench.svg)", "", memory_table(peaks), "", last])
     put("docs/BENCH.md", told)
     shown = short_table([row for row in beside if row.name in SHOWN])
     put("README.md", f"{shown}\n\n![The ratios beside the installed program](docs/bench.svg)")

@@ -1,0 +1,197 @@
+"""Rows of tools/faults: files of every kind and length, and files that change meanwhile."""
+
+import os
+import re
+import resource
+import shutil
+import subprocess
+import time
+from contextlib import suppress
+from itertools import product
+from pathlib import Path
+
+from blake3 import Tree, digest
+from faults_rows import (PATTERN, SECONDS, Z0, Z1, Z1024, Z1025, closing, limited, meanwhile, opened_folder,
+                         warning)
+
+OUT_OF_MEMORY = "b3sum: out of memory\n"
+# A list may have so many bytes; and the digest of one byte more, all 0, by another implementation.
+LARGEST = 1 << 30
+LARGE = "8c5cb1562ffe2af8b4c8c7f0b4395c518a027f6d97c4bfc950f91eaa77e00e90"
+# A length that no 32 bits hold; and the digest of so many bytes, all 0, by another implementation.
+HUGE_LEN = (5 << 30) + 1
+HUGE = "f7b8b344dd849ce2b499c285a4865025866ba33ff78204c332412a9347b1d6c6"
+PIECE = 1 << 18
+# Lengths around which the program goes another way. What comes by a pipe is read 64 KiB at a time. Of a file that is
+# longer than a piece, and alone, all workers read pieces: two, three and more of them.
+WAYS = (1 << 16, PIECE, 2 * PIECE, 3 * PIECE, 4 * PIECE, 1 << 22)
+# The length of files that change meanwhile: all workers read one that is alone, and one worker each of many.
+CHANGING = 10 * PIECE
+# A plain file that tells 4,096 bytes and has fewer.
+SHORTER = "/sys/devices/system/cpu/possible"
+
+
+def files_that_cannot_be_read(faults):
+    rows = {"missing": "a missing file", "folder": "a folder", "e/x": "a file taken for a folder",
+            "dangling": "a link to nothing", "loop": "a link to itself", "x" * 300: "a name that is too long",
+            "folder/" * 1000: "a path that is too long", "/proc/self/mem": "a file that fails once it is open"}
+    for path, name in rows.items():
+        said = f"b3sum: {path}: cannot read\n"
+        faults.row(name, [path], "", said, 1)
+        faults.row(f"{name}, among others", ["e", path, "z"], f"{Z0}  e\n{Z1}  z\n", said, 1)
+        faults.row(f"{name}, as a list", ["-c", path, "good"], "e: OK\n", said, 1)
+        faults.row(f"{name}, in a list", ["-c"], f"{path}: FAILED (cannot read)\n", warning(1), 1,
+                   input=f"{Z0}  {path}\n".encode())
+    if os.geteuid() == 0:
+        faults.skip("a file without leave to read", "root reads all")
+    else:
+        faults.row("a file without leave to read", ["closed"], err="b3sum: closed: cannot read\n", status=1)
+    said = "b3sum: -: cannot read\n"
+    with opened_folder() as folder:
+        faults.row("a folder as input", [], "", said, 1, stdin=folder)
+        faults.row("a folder as a list from input", ["-c"], "", said, 1, stdin=folder)
+    # A file that is opened then has the input's descriptor, and must not be taken for it.
+    for given, out in ((["-", "z"], f"{Z1}  z\n"), (["z", "-"], f"{Z1}  z\n"), (["-c", "-"], "")):
+        faults.row(f"a closed input, {' '.join(given)}", given, out, said, 1, preexec_fn=closing(0))
+    Path("of-input").write_text(f"{Z0}  -\n" * 2)
+    unread = "-: FAILED (cannot read)\n"
+    faults.row("a closed input in a list", ["-c", "of-input"], unread * 2, warning(2), 1, preexec_fn=closing(0))
+    faults.row("input twice in a list", ["-c", "of-input"], "-: OK\n" + unread, warning(1), 1)
+    reader, writer = os.pipe()
+    os.set_blocking(reader, False)
+    faults.row("an input that has nothing yet and does not wait", [], "", said, 1, stdin=reader)
+    os.close(reader)
+    os.close(writer)
+
+
+def files_of_every_kind(faults):
+    for length, expected in ((0, Z0), (1, Z1), (1024, Z1024), (1025, Z1025)):
+        faults.row(f"{length} bytes of input", [], f"{expected}  -\n", input=PATTERN[:length])
+        Path(f"of{length}").write_bytes(PATTERN[:length])
+        faults.row(f"a file of {length} bytes", [f"of{length}"], f"{expected}  of{length}\n")
+    version = Path("/proc/version").read_bytes()
+    faults.row("a file that tells no size", ["/proc/version"], f"{digest(version)}  /proc/version\n")
+    if os.access(SHORTER, os.R_OK):
+        line = f"{digest(Path(SHORTER).read_bytes())}  {SHORTER}\n"
+        faults.row("a file that is shorter than it tells", [SHORTER], line)
+        faults.row("one among others", ["e", SHORTER, "z"], f"{Z0}  e\n{line}{Z1}  z\n")
+    else:
+        faults.skip("a file that is shorter than it tells", f"there is no {SHORTER}")
+    faults.row("a link to a file", ["link"], f"{Z0}  link\n")
+    faults.row("a path with a folder", ["./folder/../z"], f"{Z1}  ./folder/../z\n")
+    faults.row("the empty device", ["/dev/null"], f"{Z0}  /dev/null\n")
+    faults.row("input twice", ["-", "-"], f"{Z1}  -\n", "b3sum: -: cannot read\n", 1, input=b"\0")
+    faults.row("no file means input", ["--no-names"], f"{Z0}\n")
+    with open("large", "wb") as large:
+        large.truncate(LARGEST + 1)
+    with open("huge", "wb") as huge:
+        huge.truncate(HUGE_LEN)
+    faults.row("a file of more bytes than 32 bits count", ["huge"], f"{HUGE}  huge\n")
+    little = limited(resource.RLIMIT_AS, 1 << 28)
+    hashed = f"{LARGE}  large\n"
+    faults.row("a file that is larger than a list may be", ["e", "large", "e"], f"{Z0}  e\n{hashed}{Z0}  e\n")
+    faults.row("a file that is larger than the memory", ["large"], hashed, preexec_fn=little)
+    faults.row("a list that is too large", ["-c", "large"], err="b3sum: endless input\n", status=1)
+    faults.row("a list that is too large for little memory", ["-c", "large"], "", OUT_OF_MEMORY, 1, preexec_fn=little)
+
+
+def long_files(faults):
+    """Random bytes of each length around which the program goes another way, by one thread and by many."""
+    content = os.urandom(max(WAYS) + 1)
+    tree = Tree(content)
+    for way in WAYS:
+        for length in (way - 1, way, way + 1):
+            expected = tree.digest(length)
+            Path("long").write_bytes(content[:length])
+            for threads in ("1", "2", "4", "64"):
+                name, words = f"{length} bytes, {threads} threads", ["--num-threads", threads]
+                faults.row(name, [*words, "long"], f"{expected}  long\n")
+                faults.row(f"{name}, beside another", [*words, "long", "e"], f"{expected}  long\n{Z0}  e\n")
+                faults.row(f"{name}, by a pipe", words, f"{expected}  -\n", input=content[:length])
+
+
+def number_of_threads(faults):
+    """A run over a long file has as many threads as it is told, and at no time more."""
+    for told in (1, 2, 4):
+        run = subprocess.Popen([faults.program, "--num-threads", str(told), "large"], stdout=subprocess.PIPE)
+        most = 0
+        while run.poll() is None:
+            with suppress(OSError):
+                found = re.search(r"^Threads:\s+(\d+)", Path(f"/proc/{run.pid}/status").read_text(), re.MULTILINE)
+                most = max(most, int(found[1]) if found else 0)
+        run.stdout.close()
+        faults.compare(f"{told} threads, of which {most} were seen", (None, None, most), ("", "", told))
+
+
+def lines_of_one(digests, name, times):
+    """So many lines of one name, each with one of the digests."""
+    return re.compile(f"(({'|'.join(digests)})  {name}\n){{{times}}}".encode())
+
+
+def growing_files(faults):
+    """A file that grows while it is read has the digest of what it held at one moment."""
+    page, begins = 4096, 1 << 16
+    tree = Tree(PATTERN)
+    digests = [tree.digest(length) for length in range(begins, len(PATTERN) + 1, page)]
+
+    def grow(_):
+        with open("growing", "ab", buffering=0) as growing:
+            for start in range(begins, len(PATTERN), page):
+                growing.write(PATTERN[start : start + page])
+                time.sleep(0.00002)
+
+    for turn, times in product(range(1, 21), (1, 2)):
+        Path("growing").write_bytes(PATTERN[:begins])
+        with meanwhile(grow):
+            faults.row(f"a file that grows, turn {turn}, named {times} times", ["growing"] * times,
+                       lines_of_one(digests, "growing", times))
+
+
+def changing_files(faults):
+    """Each line has the digest of what one file held, also where others are put in its place, cut it or remove it."""
+    contents = [os.urandom(CHANGING) for _ in range(2)]
+    trees = [Tree(content) for content in contents]
+    replaced_files(faults, contents, trees)
+    cut_files(faults, contents[0], trees[0])
+    removed_files(faults, contents[0], trees[0].digest(CHANGING))
+
+
+def replaced_files(faults, contents, trees):
+    for length in (1 << 20, CHANGING):
+        for name, content in zip(("one", "other"), contents):
+            Path(name).write_bytes(content[:length])
+        shutil.copy("other", "next")
+        os.replace("next", "replaced")
+        either = [tree.digest(length) for tree in trees]
+        with meanwhile(replacing):
+            for turn, times in product(range(1, 6), (1, 20)):
+                faults.row(f"a file of {length} bytes that is replaced, turn {turn}, named {times} times",
+                           ["replaced"] * times, lines_of_one(either, "replaced", times))
+
+
+def cut_files(faults, content, tree):
+    page, left = 4096, 1 << 20
+    digests = [tree.digest(length) for length in range(left, CHANGING + 1, page)]
+    for turn, (times, pause) in product(range(1, 21), ((1, 0.0002), (20, 0.0008))):
+        Path("cut").write_bytes(content)
+        with meanwhile(lambda _: (time.sleep(turn * pause), os.truncate("cut", left))):
+            faults.row(f"a file that is cut, turn {turn}, named {times} times", ["cut"] * times,
+                       lines_of_one(digests, "cut", times))
+
+
+def removed_files(faults, content, expected):
+    for turn in range(1, 11):
+        Path("removed").write_bytes(content)
+        with meanwhile(lambda _: (time.sleep(turn * 0.002), os.remove("removed"))):
+            run = subprocess.run([faults.program, *["removed"] * 20], timeout=SECONDS, capture_output=True)
+        there = run.stdout.count(b"\n")
+        due = (f"{expected}  removed\n" * there, "b3sum: removed: cannot read\n" * (20 - there), int(there < 20))
+        faults.compare(f"a file that is removed, turn {turn}", (run.stdout, run.stderr, run.returncode), due)
+
+
+def replacing(is_over):
+    """Puts one file and another, in turn, in the place of a third."""
+    while not is_over.is_set():
+        for name in ("one", "other"):
+            os.link(name, "next")
+            os.replace("next", "replaced")
