@@ -7,7 +7,7 @@ use Rattle.std.proofs.lemmas.List.Elements.{All-append}
 use Rattle.std.proofs.lemmas.Bool.Decides.{eqb_tells}
 use Rattle.b3_core.specs.declared.modes.Mode.{Mode}
 use Rattle.b3_hash.specs.Readers.{Reader}
-use Rattle.b3_check.specs.declared.ahead.Found.{Found}
+use Rattle.b3_check.specs.declared.ahead.Peeked.{Peeked}
 use Rattle.b3_check.specs.declared.items.Item.{Item}
 use Rattle.b3_check.specs.declared.items.Item.TheVariants.{Ask as AskItem}
 use Rattle.b3_check.specs.declared.items.Subject.{Subject}
@@ -30,7 +30,7 @@ all_none P k d lt = absurd (omega (arith, lt))
 
 -- an output was found for one of them
 pub known_set : {told : Option Contents} {mode : Mode} {items : List Item} {outputs : List (Option Reader)}
-    (found : Found)
+    (found : Peeked)
     → IsFound told mode items found → found.place < length outputs → AreKnown told mode items outputs
     → AreKnown told mode items (set outputs found.place (Some found.output))
 known_set {told} {mode} {items} {outputs} found is lt are = record {

@@ -3,7 +3,7 @@ use Rattle.std.specs.Prelude.{◌≡◌, ⊤, ℕ, ◌<◌, ◌≤◌, ◌++◌,
 use Rattle.b3_core.specs.Tree.{top}
 use Rattle.b3_core.specs.declared.modes.Mode.{Mode}
 use Rattle.b3_hash.specs.Readers.{Reader}
-use Rattle.b3_check.specs.declared.ahead.Found.{Found}
+use Rattle.b3_check.specs.declared.ahead.Peeked.{Peeked}
 use Rattle.b3_check.specs.declared.items.Item.{Item}
 use Rattle.b3_check.specs.Contents.{Contents, HasContent}
 use Rattle.b3_check.specs.Tasks.{Task, task_of}
@@ -28,7 +28,7 @@ pub record AreKnown (told : Option Contents) (mode : Mode) (items : List Item)
       → IsKnown told mode (task_of (slice_index_or items i d)) (slice_index_or outputs i None)
 
 -- an output was found for the item at its place
-abbrev pub IsFound : Option Contents → Mode → List Item → Found → Type 0
+abbrev pub IsFound : Option Contents → Mode → List Item → Peeked → Type 0
 IsFound told mode items found = (d : Item) → found.place < length items
     → IsKnown told mode (task_of (slice_index_or items found.place d)) (Some found.output)
 

@@ -1,6 +1,6 @@
 //! The items that come next, and what is known of them: their names are hashed beside one another.
 
-ghost use Rattle.std.specs.Prelude.{◌≡◌, ℕ, ◌+◌, ◌<◌, ◌≤◌, List, [], ◌∷◌, All, None, Option, take, true, length, replicate, IfOk, IfSome, MatchOption, OnOk};
+ghost use Rattle.std.specs.Prelude.{◌≡◌, ℕ, ◌+◌, ◌<◌, ◌≤◌, List, [], ◌∷◌, All, None, Option, take, true, length, replicate, IfOk, IfSome, MatchOption, OnOk, vec_len};
 ghost use Rattle.b3_core.specs.declared.modes.Mode.{Mode};
 ghost use Rattle.b3_check.specs.Ahead.{AreKnown, IsFound, IsKnown, HasOutput, tasks_then};
 ghost use Rattle.b3_check.specs.Contents.{Contents};
@@ -9,7 +9,9 @@ ghost use Rattle.b3_check.specs.declared.items.Item.{Item};
 
 use crate::crew::Crew;
 use crate::items::{Agenda, Item};
+use crate::options::Limits;
 use crate::pieces::PIECE_LEN;
+use crate::room::READ_LEN;
 use crate::shelf::Shelf;
 use b3_board::{Gate, MAX_WORKERS};
 use b3_core::Mode;
@@ -34,9 +36,15 @@ const ROUND_LEN: u64 = 1 << 26;
 /// How many bytes a content may have that is hashed beside others. One worker reads a longer one for too long.
 const LONGEST: u64 = 1 << 25;
 
+/// The same where there are few items for each worker, so that some would have nothing to do meanwhile.
+const LONGEST_OF_FEW: u64 = 1 << 21;
+
+/// How many bytes of its room a hand touches first.
+const FIRST_ROOM: usize = 1 << 14;
+
 /// The output of the item at a place.
 #[derive(Drop)]
-pub struct Found {
+pub struct Peeked {
     place: usize,
     output: Xof,
 }
@@ -45,11 +53,11 @@ pub struct Found {
 #[derive(Drop)]
 pub struct Hand {
     room: Vec<u8>,
-    found: Vec<Found>,
+    found: Vec<Peeked>,
 }
 
 impl Hand {
-    /// A hand that has found nothing. Its room is touched when it first reads.
+    /// A hand that has found nothing. Its room is touched as contents fill it.
     pub fn new(alloc: Global) -> Result<Hand, AllocError> {
         Ok(Hand {
             room: Vec::with_capacity(alloc, PIECE_LEN)?,
@@ -63,6 +71,7 @@ impl Hand {
         shelf: &S,
         mode: &Mode,
         items: &VecDeque<Item<'_>>,
+        longest: u64,
         taken: &AtomicUsize,
         hashed: &AtomicU64,
     )
@@ -80,33 +89,51 @@ impl Hand {
             let Item::Ask(subject) = item else {
                 continue;
             };
-            let Some((output, len)) = self.output_of(shelf, mode, subject.name()) else {
+            let Some((output, len)) = self.output_of(shelf, mode, subject.name(), longest) else {
                 continue;
             };
             hashed.fetch_add(len, Ordering::SeqCst);
-            keep(&mut self.found, Found { place, output });
+            keep(&mut self.found, Peeked { place, output });
         }
     }
 
     // The output of the whole content of a name, and how many bytes it has, if it is soon read and not too long.
-    fn output_of<S: Shelf>(&mut self, shelf: &S, mode: &Mode, name: &str) -> Option<(Xof, u64)>
+    fn output_of<S: Shelf>(
+        &mut self,
+        shelf: &S,
+        mode: &Mode,
+        name: &str,
+        longest: u64,
+    ) -> Option<(Xof, u64)>
         ensures output { IfSome result (λ done. HasOutput (S.told shelf.now) mode.now name.now done.0) }
         ensures found { self.new.found ≡ self.old.found }
     {
         if self.room.is_empty() {
-            self.room.resize(PIECE_LEN, 0).ok()?;
+            self.widen().ok()?;
         }
         let mut hasher = Hasher::new(*mode);
-        if !shelf.peek(name, LONGEST, self.room.as_mut_slice(), &mut hasher) {
+        if !shelf.peek(name, longest, self.room.as_mut_slice(), &mut hasher) {
             return None;
         }
+        if hasher.len() >= self.room.len() as u64 {
+            self.widen().ok()?;
+        }
         Some((hasher.finish(), hasher.len()))
+    }
+
+    // Room for four times as much as there is, up to a piece.
+    fn widen(&mut self) -> Result<(), AllocError>
+        ensures some { OnOk result (0 < vec_len self.new.room) }
+        ensures found { self.new.found ≡ self.old.found }
+    {
+        let len = self.room.len().saturating_mul(4);
+        self.room.resize(len.clamp(FIRST_ROOM, PIECE_LEN), 0)
     }
 }
 
 // Keeps what was found, where there is memory for it.
 #[tactic(auto, using(crate::proofs::AheadLemmas::all_more))]
-fn keep(found: &mut Vec<Found>, one: Found)
+fn keep(found: &mut Vec<Peeked>, one: Peeked)
     ensures { (told : Option Contents) (mode : Mode) (items : List Item) → IsFound told mode items one
         → All (IsFound told mode items) found.old.items → All (IsFound told mode items) found.new.items }
 {
@@ -131,6 +158,8 @@ pub struct Ahead<'a> {
     alloc: Global,
     // how many items the next round takes
     round: usize,
+    // how many bytes a content may have that is read in as many reads as a file may take
+    longest: u64,
     pub items: VecDeque<Item<'a>>,
     pub outputs: VecDeque<Option<Xof>>,
     ghost some: { 0 < round },
@@ -138,13 +167,17 @@ pub struct Ahead<'a> {
 
 impl<'a> Ahead<'a> {
     /// No item is taken.
-    pub fn new(alloc: Global) -> Ahead<'a>
+    pub fn new(alloc: Global, limits: Limits) -> Ahead<'a>
         ensures items { result.items.items ≡ [] }
         ensures outputs { result.outputs.items ≡ [] }
     {
         Ahead {
             alloc,
             round: FIRST_ROUND,
+            longest: limits
+                .turns
+                .saturating_mul(READ_LEN as u64)
+                .saturating_sub(1),
             items: VecDeque::new(alloc),
             outputs: VecDeque::new(alloc),
         }
@@ -204,7 +237,15 @@ impl<'a> Ahead<'a> {
         }
         let count = if hands.len() > 1 { self.round } else { 1 };
         take(&mut self.items, agenda, count)?;
-        self.outputs = look(self.alloc, crew, hands, shelf, mode, &self.items)?;
+        self.outputs = look(
+            self.alloc,
+            crew,
+            hands,
+            shelf,
+            mode,
+            &self.items,
+            self.longest,
+        )?;
         self.round = self.round.saturating_mul(2).min(MOST_ITEMS);
         Ok(())
     }
@@ -262,6 +303,7 @@ fn look<R: Threads + Wait + Sync, G: Gate + Sync, S: Shelf + Sync>(
     shelf: &S,
     mode: &Mode,
     items: &VecDeque<Item<'_>>,
+    longest: u64,
 ) -> Result<VecDeque<Option<Xof>>, AllocError>
     ensures { IfOk result (λ outputs. AreKnown (S.told shelf.now) mode.now items.now.items outputs.items) }
 {
@@ -270,8 +312,10 @@ fn look<R: Threads + Wait + Sync, G: Gate + Sync, S: Shelf + Sync>(
     }
     // Not more hands than items.
     let count = hands.len().min(items.len());
+    let is_few = items.len() / 2 < count;
     let hands = &mut hands[..count];
-    let looked = look_all(crew, hands, shelf, mode, items).min(items.len());
+    let longest = longest.min(if is_few { LONGEST_OF_FEW } else { LONGEST });
+    let looked = look_all(crew, hands, shelf, mode, items, longest).min(items.len());
     let mut outputs = nothing_known(alloc, looked)?;
     for hand in hands.iter() {
         note(&mut outputs, hand.found.as_slice());
@@ -286,6 +330,7 @@ fn look_all<R: Threads + Wait + Sync, G: Gate + Sync, S: Shelf + Sync>(
     shelf: &S,
     mode: &Mode,
     items: &VecDeque<Item<'_>>,
+    longest: u64,
 ) -> usize
     requires { 0 < length hands.old }
     ensures { All (λ hand. All (IsFound (S.told shelf.now) mode.now items.now.items) hand.found.items) hands.new }
@@ -300,7 +345,7 @@ fn look_all<R: Threads + Wait + Sync, G: Gate + Sync, S: Shelf + Sync>(
         &|_, hand: &mut Hand|
             ensures { All (IsFound (S.told shelf.entry.now) mode.entry.now items.entry.now.items)
                 hand.exit.now.found.items }
-        { hand.look(shelf, mode, items, &taken, &hashed) },
+        { hand.look(shelf, mode, items, longest, &taken, &hashed) },
     );
     taken.load(Ordering::SeqCst)
 }
@@ -313,7 +358,7 @@ fn nothing_known(alloc: Global, count: usize) -> Result<Vec<Option<Xof>>, AllocE
 }
 
 // Notes what a hand found.
-fn note(outputs: &mut Vec<Option<Xof>>, found: &[Found])
+fn note(outputs: &mut Vec<Option<Xof>>, found: &[Peeked])
     ensures { (told : Option Contents) (mode : Mode) (items : List Item) → All (IsFound told mode items) found.now
         → AreKnown told mode items outputs.old.items → AreKnown told mode items outputs.new.items }
 {
@@ -324,7 +369,7 @@ fn note(outputs: &mut Vec<Option<Xof>>, found: &[Found])
 
 // Notes what was found for one item, if it has a place.
 #[tactic(auto, using(crate::proofs::AheadLemmas::known_set))]
-fn note_one(outputs: &mut Vec<Option<Xof>>, one: &Found)
+fn note_one(outputs: &mut Vec<Option<Xof>>, one: &Peeked)
     ensures { (told : Option Contents) (mode : Mode) (items : List Item) → IsFound told mode items one.now
         → AreKnown told mode items outputs.old.items → AreKnown told mode items outputs.new.items }
 {

@@ -86,7 +86,7 @@ impl<'c, R: Threads + Wait + Sync, G: Gate + Sync> Worker<'c, R, G> {
     {
         let mut tally = Tally::none();
         let mut lines = Vec::new(self.alloc);
-        let mut ahead = Ahead::new(self.alloc);
+        let mut ahead = Ahead::new(self.alloc, self.limits);
         while let Some((item, output)) = self.next(desk, &mut ahead, agenda)? {
             let is_more_soon = ahead.knows_next() && lines.len() < MOST_LINES;
             let one = self.run_item(desk, item, output, &mut lines, is_more_soon)?;
