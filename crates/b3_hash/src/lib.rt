@@ -12,8 +12,6 @@ mod laws;
 mod open_chunk;
 mod output;
 mod subtrees;
-#[cfg(test)]
-mod tests;
 mod window;
 
 pub use derivation::derive_mode;

@@ -21,6 +21,3 @@ pub use places::Lines;
 pub use reading::{Line, lines, read_line};
 pub use tagging::write_tagged;
 pub use writing::{shown_name, write_line};
-
-#[cfg(test)]
-mod tests;

@@ -1,7 +1,7 @@
 // Lines as they are written, and read back.
 
 use super::{DIGITS, assert_fault, assert_says, digest, line_of};
-use crate::{LineFault, read_line, shown_name, write_line, write_tagged};
+use b3_lines::{LineFault, read_line, shown_name, write_line, write_tagged};
 use std::alloc::{AllocError, Global};
 use std::process::Abort;
 use std::test::Fail;

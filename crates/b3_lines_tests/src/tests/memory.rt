@@ -1,7 +1,7 @@
 // What is answered where a growth is refused.
 
 use super::{assert_says, digest};
-use crate::{
+use b3_lines::{
     LineFault, holds_bad_character, lines, read_line, shown_name, write_line, write_tagged,
 };
 use std::alloc::Global;

@@ -1,7 +1,7 @@
 use Rattle.std.proofs.Common.{◌∙◌, ◌<◌, length, sym, arith}
 use Rattle.b3_core.specs.Tree.{IsLeft, chunk, chunks, parent}
 use Rattle.b3_core.proofs.Subtrees.{IsTop-only, top-chunk}
-use Rattle.b3_core.proofs.tests.lanes.+top_plain.Goals as goal
+use Rattle.b3_core_tests.proofs.tests.lanes.+top_plain.Goals as goal
 
 pub returns-then-bytes-le-CHUNK_LEN-clause-value : goal.returns-then-bytes-le-CHUNK_LEN-clause-value
 returns-then-bytes-le-CHUNK_LEN-clause-value t c =

@@ -5,8 +5,11 @@ ghost use Rattle.b3_core.specs.Tree.{IsTop, chunks, top};
 ghost use Rattle.b3_core.specs.declared.nodes.Node.{Node};
 
 use super::vectors::{KEY, pattern};
-use super::*;
-use crate::lanes::counters;
+use b3_core::{
+    CHUNK_LEN, Mode, Node, chain8, chunk_node, chunks, compress, compress8, left, parent_node, top,
+};
+use std::process::Abort;
+use std::test::Fail;
 
 // The tree by chunks and parents one at a time, under the contract of `top`.
 fn top_plain(mode: &Mode, first: u64, bytes: &[u8]) -> Node
@@ -101,21 +104,6 @@ fn counters_across_2_to_the_32(rt: HostRuntime) -> Result<(), Fail> {
         FIRST + 6,
         FIRST + 7,
     ];
-    let (low, high) = counters(&numbers);
-    assert_eq!(rt;
-        low.to_array(),
-        [
-            4_294_967_292,
-            4_294_967_293,
-            4_294_967_294,
-            4_294_967_295,
-            0,
-            1,
-            2,
-            3
-        ]
-    );
-    assert_eq!(rt; high.to_array(), [0, 0, 0, 0, 1, 1, 1, 1]);
     let bytes = pattern(rt.alloc(), 8192)?;
     let mut eight = [0; 8192];
     eight.copy_from_slice(&bytes);

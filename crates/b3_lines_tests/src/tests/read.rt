@@ -1,7 +1,7 @@
 // Lines as they are read: what is taken, and what is refused.
 
 use super::{assert_fault, assert_says, line_of};
-use crate::{LineFault, read_line};
+use b3_lines::{LineFault, read_line};
 use std::alloc::Global;
 use std::process::Abort;
 use std::test::Fail;

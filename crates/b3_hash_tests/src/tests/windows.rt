@@ -2,9 +2,12 @@
 
 ghost use Rattle.std.specs.Prelude.{◌≡◌, ◌≤◌, length};
 
-use super::{DIGEST_OF_0, DIGEST_OF_1024, DIGEST_OF_1025, assert_digest, pattern};
-use crate::{Hasher, TooLong, WindowFault, Xof};
+use super::{
+    DIGEST_OF_0, DIGEST_OF_1024, DIGEST_OF_1025, assert_digest, assert_tree, digest_of, pattern,
+    update,
+};
 use b3_core::{Mode, top};
+use b3_hash::{Hasher, TooLong, WindowFault, hash};
 use std::process::Abort;
 use std::test::Fail;
 
@@ -36,14 +39,14 @@ fn a_window_of_one_chunk_stays_open(rt: HostRuntime) -> Result<(), Fail> {
     let mut hasher = Hasher::new(Mode::hash());
     push(&rt, &mut hasher, chunk, 0);
     assert_digest(&rt, &hasher, &DIGEST_OF_1024, "the window");
-    assert_eq!(rt; hasher.update(&[]), Ok(()));
+    update(&rt, &mut hasher, &[]);
     assert_digest(&rt, &hasher, &DIGEST_OF_1024, "and then no bytes");
-    assert_eq!(rt; hasher.update(byte), Ok(()));
+    update(&rt, &mut hasher, byte);
     assert_digest(&rt, &hasher, &DIGEST_OF_1025, "and then 1");
     Ok(())
 }
 
-// The node of the window is the root; after a byte more, the root is a parent over it and a chunk.
+// Alone, and followed by one byte more.
 #[test]
 fn a_window_of_16_mebibytes(rt: HostRuntime) -> Result<(), Fail> {
     let all = pattern(rt.alloc(), 16_777_217)?;
@@ -51,15 +54,14 @@ fn a_window_of_16_mebibytes(rt: HostRuntime) -> Result<(), Fail> {
     let node = top(&Mode::hash(), 0, window);
     let mut hasher = Hasher::new(Mode::hash());
     assert_eq!(rt; hasher.push_window(node, 14), Ok(()));
-    assert_eq!(rt; hasher.root(), node);
     assert_digest(&rt, &hasher, &DIGEST_OF_16_MIB, "the window");
     let len = hasher.len();
     assert!(rt; len % 1024 == 0);
     let last = hasher.finish_with(top(&Mode::hash(), 16_384, byte));
-    assert_digest_of(&rt, last, &DIGEST_OF_16_MIB_AND_1, 1);
-    assert_eq!(rt; hasher.update(byte), Ok(()));
+    assert_eq!(rt; digest_of(&rt, last), DIGEST_OF_16_MIB_AND_1);
+    update(&rt, &mut hasher, byte);
     assert_digest(&rt, &hasher, &DIGEST_OF_16_MIB_AND_1, "and then 1");
-    assert_eq!(rt; crate::hash(&all), DIGEST_OF_16_MIB_AND_1);
+    assert_eq!(rt; hash(&all), DIGEST_OF_16_MIB_AND_1);
     Ok(())
 }
 
@@ -101,17 +103,18 @@ fn update_then_push(rt: &impl Abort, hasher: &mut Hasher, all: &[u8], skip: usiz
     let come = (hasher.len() as usize).min(all.len());
     let (_, rest) = all.split_at(come);
     let (bytes, rest) = rest.split_at(skip.min(rest.len()));
-    assert_eq!(rt; hasher.update(bytes), Ok(()));
+    update(rt, hasher, bytes);
     let (window, _) = rest.split_at((1024usize << level).min(rest.len()));
     push(rt, hasher, window, level);
 }
 
-fn assert_root(rt: &impl Abort, hasher: &Hasher, all: &[u8])
+// The bytes so far have the digest of their tree.
+fn assert_so_far(rt: &impl Abort, hasher: &Hasher, all: &[u8])
     requires { length all.now ≤ 65536 }
 {
     let come = (hasher.len() as usize).min(all.len());
     let (bytes, _) = all.split_at(come);
-    assert_eq!(rt; hasher.root(), top(&Mode::hash(), 0, bytes), "{come} bytes");
+    assert_tree(rt, hasher, bytes, "so far");
 }
 
 #[test]
@@ -120,12 +123,12 @@ fn windows_among_bytes(rt: HostRuntime) -> Result<(), Fail> {
     let mut hasher = Hasher::new(Mode::hash());
     for (skip, level) in [(0usize, 2u32), (0, 1), (2048, 3), (0, 0), (3072, 2), (0, 0)] {
         update_then_push(&rt, &mut hasher, &all, skip, level.min(3));
-        assert_root(&rt, &hasher, &all);
+        assert_so_far(&rt, &hasher, &all);
     }
     let (_, rest) = all.split_at((hasher.len() as usize).min(30_000));
-    assert_eq!(rt; hasher.update(rest), Ok(()));
+    update(&rt, &mut hasher, rest);
     assert_eq!(rt; hasher.len(), 30_000);
-    assert_root(&rt, &hasher, &all);
+    assert_so_far(&rt, &hasher, &all);
     Ok(())
 }
 
@@ -140,13 +143,11 @@ fn assert_finish_with(rt: &impl Abort, hasher: &Hasher, all: &[u8], last: usize)
     let len = hasher.len();
     assert!(rt; len % 1024 == 0);
     let output = hasher.finish_with(top(&Mode::hash(), 12, window));
-    assert_digest_of(rt, output, &crate::hash(whole), last);
-}
-
-fn assert_digest_of(rt: &impl Abort, mut output: Xof, want: &[u8; 32], last: usize) {
-    let mut digest = [0; 32];
-    assert_eq!(rt; output.fill(&mut digest), Ok(()));
-    assert_eq!(rt; digest, *want, "a last window of {last} bytes");
+    assert_eq!(rt;
+        digest_of(rt, output),
+        hash(whole),
+        "a last window of {last} bytes"
+    );
 }
 
 #[test]
@@ -158,12 +159,13 @@ fn a_last_window(rt: HostRuntime) -> Result<(), Fail> {
         push(&rt, &mut pushed, window, 2);
     }
     let mut updated = Hasher::new(Mode::hash());
-    assert_eq!(rt; updated.update(before), Ok(()));
+    update(&rt, &mut updated, before);
     for last in [1usize, 63, 64, 65, 1023, 1024, 1025, 2048, 3000, 4095, 4096] {
         assert_finish_with(&rt, &pushed, &all, last.min(4096));
         assert_finish_with(&rt, &updated, &all, last.min(4096));
     }
-    assert_eq!(rt; pushed.root(), updated.root(), "both can go on");
+    assert_tree(&rt, &pushed, before, "which can go on");
+    assert_tree(&rt, &updated, before, "which can go on");
     Ok(())
 }
 
@@ -173,7 +175,7 @@ fn a_last_window_of_no_bytes(rt: HostRuntime) {
     let len = hasher.len();
     assert!(rt; len % 1024 == 0);
     let output = hasher.finish_with(top(&Mode::hash(), 0, &[]));
-    assert_digest_of(&rt, output, &DIGEST_OF_0, 0);
+    assert_eq!(rt; digest_of(&rt, output), DIGEST_OF_0);
 }
 
 #[test]

@@ -5,7 +5,7 @@ mod memory;
 mod read;
 mod written;
 
-use super::*;
+use b3_lines::{Line, LineFault, Lines, lines, read_line};
 use hex::FromHex;
 use std::alloc::{AllocError, Global};
 use std::process::Abort;

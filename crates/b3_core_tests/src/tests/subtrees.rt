@@ -2,7 +2,7 @@
 
 ghost use Rattle.std.specs.Prelude.{◌≡◌};
 
-use crate::{Span, is_subtree, sibling};
+use b3_core::{Span, is_subtree, sibling};
 use std::process::Abort;
 
 fn span(first: u64, count: u64) -> Span

@@ -1,8 +1,8 @@
 // The laws over lists, at worked values.
 
 use super::{DIGEST_OF_0, DIGEST_OF_1025, pattern};
-use crate::{Xof, output_of_pieces, read_places};
 use b3_core::{Mode, top};
+use b3_hash::{Xof, output_of_pieces, read_places};
 use std::test::Fail;
 
 #[test]
