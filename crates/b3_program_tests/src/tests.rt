@@ -370,7 +370,7 @@ fn a_file_is_read_at_its_places(rt: HostRuntime) -> Result<(), Fail> {
     for k in 0..100usize {
         assert_eq!(rt; shelf.len_hint(), rest.len() as u64);
         assert_at(&rt, &shelf, rest, k);
-        assert_at(&rt, &shelf, rest, rest.len() / 100 * k);
+        assert_at(&rt, &shelf, rest, (rest.len() / 100).saturating_mul(k));
         assert_at(&rt, &shelf, rest, rest.len().saturating_sub(11 * k));
         assert_at(&rt, &shelf, rest, rest.len().saturating_add(k));
         let mut room = [0; 999];
