@@ -12,6 +12,7 @@ mod random;
 mod source;
 mod workers;
 
+use crate::tests::memory::{by_cutting, by_grain};
 use b3_board::*;
 use b3_core::{Mode, Node, Span, top};
 use std::alloc::{AllocError, Global};
@@ -39,6 +40,63 @@ fn span(first: u64, count: u64) -> Span {
 fn root_of(rt: &impl Abort, input: &[u8]) -> Node {
     assert!(rt; input.len() <= 1 << 30);
     top(&Mode::hash(), 0, input)
+}
+
+// A new board, with a share of all parts.
+fn open_board<'a, L: Planned>(
+    alloc: Global,
+    plan: &Plan<'a>,
+    blank: Blank,
+) -> Result<(Board<'a, L>, Share<L>), BoardFault>
+    requires name { blank.name ≡ L.name }
+    requires parts { blank.parts ≡ L.parts }
+    requires whole { L.parts ≡ 128 }
+    requires own { IsPlanOf L.input L.mode L.first plan.now }
+{
+    Board::<'a, L>::new(alloc, plan, blank)
+}
+
+// Does the work of span `i`, and deposits it.
+fn deposit<'a, L: Planned>(
+    rt: &impl Abort,
+    board: &mut Board<'a, L>,
+    share: &mut Share<L>,
+    plan: &Plan<'a>,
+    i: usize,
+) -> Result<(), Refused<'a>> {
+    let done = plan.job(i).expect(rt, "a job").work();
+    board.deposit(done, share)
+}
+
+// The same as the board's own work; whether it was taken.
+fn deposit_own<'a, L: Planned>(
+    rt: &impl Abort,
+    board: &mut Board<'a, L>,
+    share: &mut Share<L>,
+    plan: &Plan<'a>,
+    i: usize,
+) -> bool
+    requires { IsPlanOf L.input L.mode L.first plan.now }
+{
+    let own = plan.own_job::<L>(i).expect(rt, "a job").work();
+    board.deposit_own(own, share).is_ok()
+}
+
+// Hashes what is open, and answers how many chunks that were.
+fn sweep<'a, L: Planned>(board: &mut Board<'a, L>, share: &mut Share<L>) -> u64 {
+    board.sweep(share)
+}
+
+// The deposited chunks, those that are still to be deposited, and those of a share.
+fn counts<'a, L: Planned>(board: &Board<'a, L>, share: &Share<L>) -> (u64, u64, u64) {
+    (board.deposited(), board.waiting(), share.chunks())
+}
+
+// The root is the top of the whole input, kept by the board.
+fn assert_root<'a, L: Planned>(rt: &impl Abort, board: &Board<'a, L>, input: &[u8]) {
+    let root = board.root().expect(rt, "a root");
+    assert!(rt; root.kept());
+    assert_eq!(rt; root.node(), root_of(rt, input));
 }
 
 fn assert_pieces<'a, L: Planned>(rt: &impl Abort, board: &Board<'a, L>, want: &[(u64, u64)]) {
@@ -71,21 +129,17 @@ fn steps_on<'a, L: Planned>(
     requires whole { L.parts ≡ 128 }
     requires own { IsPlanOf L.input L.mode L.first plan.now }
 {
-    let (mut board, mut share) = Board::<'a, L>::new(alloc, plan, blank)?;
+    let (mut board, mut share) = open_board::<L>(alloc, plan, blank)?;
     assert!(rt; board.is_over(plan) && board.deposited() == 0);
     assert_eq!(rt; board.open_spans(), plan.len());
     for step in steps {
-        let done = plan.job(step.span).expect(rt, "a job").work();
         assert!(rt; board.root().is_none());
-        assert!(rt; board.deposit(done, &mut share).is_ok());
+        assert!(rt; deposit(rt, &mut board, &mut share, plan, step.span).is_ok());
         assert_pieces(rt, &board, step.pieces);
-        assert_eq!(rt; board.deposited(), step.deposited);
-        assert_eq!(rt; board.waiting(), step.waiting);
-        assert_eq!(rt; share.chunks(), step.deposited);
+        let want = (step.deposited, step.waiting, step.deposited);
+        assert_eq!(rt; counts(&board, &share), want);
     }
-    let root = board.root().expect(rt, "a root");
-    assert!(rt; root.kept());
-    assert_eq!(rt; root.node(), root_of(rt, plan.input()));
+    assert_root(rt, &board, plan.input());
     assert_eq!(rt; board.open_span(0), None);
     Ok(())
 }
@@ -97,7 +151,7 @@ fn steps(rt: &impl Abort, alloc: Global, plan: &Plan, steps: &[Step]) -> Result<
 #[test]
 fn five_chunks(rt: HostRuntime) -> Result<(), Fail> {
     let input = pattern(rt.alloc(), 5 * 1024)?;
-    let plan = Plan::new(rt.alloc(), &input, Mode::hash(), 1)?;
+    let plan = by_grain(rt.alloc(), &input, 1)?;
     let rows = [
         Step {
             span: 4,
@@ -136,7 +190,7 @@ fn five_chunks(rt: HostRuntime) -> Result<(), Fail> {
 #[test]
 fn seven_chunks_in_spans_of_two(rt: HostRuntime) -> Result<(), Fail> {
     let input = pattern(rt.alloc(), 6 * 1024 + 1)?;
-    let plan = Plan::new(rt.alloc(), &input, Mode::hash(), 2)?;
+    let plan = by_grain(rt.alloc(), &input, 2)?;
     assert_eq!(&rt; plan.span(3), Some(span(6, 1)));
     let rows = [
         Step {
@@ -170,7 +224,7 @@ fn seven_chunks_in_spans_of_two(rt: HostRuntime) -> Result<(), Fail> {
 #[test]
 fn six_chunks_by_the_callers_cutting(rt: HostRuntime) -> Result<(), Fail> {
     let input = pattern(rt.alloc(), 6 * 1024)?;
-    let plan = Plan::cut(rt.alloc(), &input, Mode::hash(), &[span(0, 4), span(4, 2)])?;
+    let plan = by_cutting(rt.alloc(), &input, &[span(0, 4), span(4, 2)])?;
     let rows = [
         Step {
             span: 1,
@@ -202,19 +256,17 @@ fn order_on<'a, L: Planned>(
     requires whole { L.parts ≡ 128 }
     requires own { IsPlanOf L.input L.mode L.first plan.now }
 {
-    let (mut board, mut share) = Board::<'a, L>::new(alloc, plan, blank)?;
+    let (mut board, mut share) = open_board::<L>(alloc, plan, blank)?;
     for i in order {
         if *i % 2 == 0 {
-            let done = plan.job(*i).expect(rt, "a job").work();
-            assert!(rt; board.deposit(done, &mut share).is_ok());
+            assert!(rt; deposit(rt, &mut board, &mut share, plan, *i).is_ok());
         } else {
-            let own = plan.own_job::<L>(*i).expect(rt, "a job").work();
-            assert!(rt; board.deposit_own(own, &mut share).is_ok());
+            assert!(rt; deposit_own(rt, &mut board, &mut share, plan, *i));
         }
     }
     assert_eq!(rt; board.root().expect(rt, "a root").node(), *want);
     assert_eq!(rt; share.chunks(), board.deposited());
-    assert_eq!(rt; board.sweep(&mut share), 0);
+    assert_eq!(rt; sweep(&mut board, &mut share), 0);
     Ok(())
 }
 
@@ -232,7 +284,7 @@ fn in_order(
 fn each_order_of_five_chunks(rt: HostRuntime) -> Result<(), Fail> {
     let alloc = rt.alloc();
     let input = pattern(alloc, 4 * 1024 + 7)?;
-    let plan = Plan::new(alloc, &input, Mode::hash(), 1)?;
+    let plan = by_grain(alloc, &input, 1)?;
     let want = root_of(&rt, &input);
     for code in 0..120usize {
         let mut rest = code;
@@ -256,9 +308,8 @@ fn assert_stranger<'a, L: Planned>(
     share: &mut Share<L>,
     stranger: &Plan<'a>,
 ) {
-    let done = stranger.job(3).expect(rt, "a job").work();
-    let node = done.node();
-    match board.deposit(done, share) {
+    let node = stranger.job(3).expect(rt, "a job").work().node();
+    match deposit(rt, board, share, stranger, 3) {
         Err(Refused::OtherBytes(back)) => assert_eq!(rt; back.node(), node),
         _ => assert!(rt; false, "a stranger was not refused"),
     }
@@ -279,24 +330,18 @@ fn refusals_on<'a, L: Planned>(
     requires whole { L.parts ≡ 128 }
     requires own { IsPlanOf L.input L.mode L.first plan.now }
 {
-    let (mut board, mut share) = Board::<'a, L>::new(alloc, plan, blank)?;
-    let done = plan.job(2).expect(rt, "a job").work();
-    assert!(rt; board.deposit(done, &mut share).is_ok());
-    let double = plan.job(2).expect(rt, "a job").work();
-    match board.deposit(double, &mut share) {
+    let (mut board, mut share) = open_board::<L>(alloc, plan, blank)?;
+    assert!(rt; deposit(rt, &mut board, &mut share, plan, 2).is_ok());
+    match deposit(rt, &mut board, &mut share, plan, 2) {
         Err(Refused::NotOpen(back)) => assert_eq!(rt; back.span(), span(2, 1)),
         _ => assert!(rt; false, "a double was not refused"),
     }
-    let own = plan.own_job::<L>(2).expect(rt, "a job").work();
-    assert!(rt; board.deposit_own(own, &mut share).is_err());
+    assert!(rt; !deposit_own(rt, &mut board, &mut share, plan, 2));
     assert_stranger(rt, &mut board, &mut share, other);
     assert_stranger(rt, &mut board, &mut share, keyed);
     assert_stranger(rt, &mut board, &mut share, later);
     assert_eq!(rt; board.open_span(2), Some(span(3, 1)));
-    assert_eq!(rt;
-        (board.deposited(), board.waiting(), share.chunks()),
-        (1, 4, 1)
-    );
+    assert_eq!(rt; counts(&board, &share), (1, 4, 1));
     Ok(())
 }
 
@@ -316,8 +361,8 @@ fn doubles_and_strangers(rt: HostRuntime) -> Result<(), Fail> {
     let alloc = rt.alloc();
     let input = pattern(alloc, 5 * 1024)?;
     let zeros = vec![in alloc; 0; 5 * 1024]?;
-    let plan = Plan::new(alloc, &input, Mode::hash(), 1)?;
-    let other = Plan::new(alloc, &zeros, Mode::hash(), 1)?;
+    let plan = by_grain(alloc, &input, 1)?;
+    let other = by_grain(alloc, &zeros, 1)?;
     let keyed = Plan::new(alloc, &input, Mode::keyed(&[7; 32]), 1)?;
     let later = Plan::at(alloc, &input, Mode::hash(), 16, 1)?;
     refusals(&rt, alloc, &plan, &other, &keyed, &later)
@@ -334,15 +379,14 @@ fn kept_on<'a, L: Planned>(
     requires whole { L.parts ≡ 128 }
     requires own { IsPlanOf L.input L.mode L.first plan.now }
 {
-    let (mut board, mut share) = Board::<'a, L>::new(alloc, plan, blank)?;
+    let (mut board, mut share) = open_board::<L>(alloc, plan, blank)?;
     for i in 0..plan.len() {
-        let own = plan.own_job::<L>(i).expect(rt, "a job").work();
-        assert!(rt; board.deposit_own(own, &mut share).is_ok());
+        assert!(rt; deposit_own(rt, &mut board, &mut share, plan, i));
     }
     let want = root_of(rt, plan.input());
     for _ in 0..1_000_000usize {
         assert_eq!(rt; board.root().expect(rt, "a root").node(), want);
-        assert_eq!(rt; board.sweep(&mut share), 0);
+        assert_eq!(rt; sweep(&mut board, &mut share), 0);
     }
     Ok(())
 }
@@ -355,14 +399,14 @@ fn kept(rt: &impl Abort, alloc: Global, plan: &Plan) -> Result<(), Fail> {
 #[test]
 fn kept_nodes(rt: HostRuntime) -> Result<(), Fail> {
     let input = pattern(rt.alloc(), 1 << 24)?;
-    let plan = Plan::new(rt.alloc(), &input, Mode::hash(), 1024)?;
+    let plan = by_grain(rt.alloc(), &input, 1024)?;
     kept(&rt, rt.alloc(), &plan)
 }
 
 #[test]
 fn a_plain_root_is_not_kept(rt: HostRuntime) -> Result<(), Fail> {
     let input = pattern(rt.alloc(), 1024)?;
-    let plan = Plan::new(rt.alloc(), &input, Mode::hash(), 1)?;
+    let plan = by_grain(rt.alloc(), &input, 1)?;
     let plain = plan.plain();
     assert!(&rt; !plain.kept());
     assert_eq!(&rt; plain.node(), root_of(&rt, &input));
@@ -383,13 +427,12 @@ fn shares_on<'a, L: Planned>(
     requires whole { L.parts ≡ 128 }
     requires own { IsPlanOf L.input L.mode L.first plan.now }
 {
-    let (mut board, mut all) = Board::<'a, L>::new(alloc, plan, blank)?;
-    assert_eq!(rt; (all.parts(), all.chunks()), (128, 0));
+    let (mut board, mut all) = open_board::<L>(alloc, plan, blank)?;
+    assert!(rt; all.parts() == 128 && all.chunks() == 0);
     let mut one = all.split();
     assert_eq!(rt; (all.parts(), one.parts(), one.chunks()), (127, 1, 0));
-    let own = plan.own_job::<L>(0).expect(rt, "a job").work();
-    assert!(rt; board.deposit_own(own, &mut one).is_ok());
-    assert_eq!(rt; board.sweep(&mut all), 4);
+    assert!(rt; deposit_own(rt, &mut board, &mut one, plan, 0));
+    assert_eq!(rt; sweep(&mut board, &mut all), 4);
     assert_eq!(rt; (one.chunks(), all.chunks()), (1, 4));
     assert!(rt; one.chunks() <= 5 && all.chunks() <= 5);
     all.join(one);
@@ -406,7 +449,7 @@ fn shares(rt: &impl Abort, alloc: Global, plan: &Plan) -> Result<(), Fail> {
 #[test]
 fn shares_split_and_joined(rt: HostRuntime) -> Result<(), Fail> {
     let input = pattern(rt.alloc(), 5 * 1024)?;
-    let plan = Plan::new(rt.alloc(), &input, Mode::hash(), 1)?;
+    let plan = by_grain(rt.alloc(), &input, 1)?;
     shares(&rt, rt.alloc(), &plan)
 }
 
@@ -422,20 +465,15 @@ fn dropped_on<'a, L: Planned>(
     requires whole { L.parts ≡ 128 }
     requires own { IsPlanOf L.input L.mode L.first plan.now }
 {
-    let (mut board, mut left) = Board::<'a, L>::new(alloc, plan, blank)?;
+    let (mut board, mut left) = open_board::<L>(alloc, plan, blank)?;
+    assert!(rt; left.parts() == 128);
     let mut dropped = left.split();
-    let own = plan.own_job::<L>(0).expect(rt, "a job").work();
-    assert!(rt; board.deposit_own(own, &mut dropped).is_ok());
+    assert!(rt; deposit_own(rt, &mut board, &mut dropped, plan, 0));
     drop(dropped);
-    assert_eq!(rt; board.sweep(&mut left), 4);
-    assert_eq!(rt;
-        (left.parts(), left.chunks(), board.deposited()),
-        (127, 4, 5)
-    );
-    assert_eq!(rt;
-        board.root().expect(rt, "a root").node(),
-        root_of(rt, plan.input())
-    );
+    assert_eq!(rt; sweep(&mut board, &mut left), 4);
+    assert_eq!(rt; left.parts(), 127);
+    assert_eq!(rt; counts(&board, &left), (5, 0, 4));
+    assert_root(rt, &board, plan.input());
     Ok(())
 }
 
@@ -446,6 +484,6 @@ fn dropped(rt: &impl Abort, alloc: Global, plan: &Plan) -> Result<(), Fail> {
 #[test]
 fn a_share_that_is_dropped(rt: HostRuntime) -> Result<(), Fail> {
     let input = pattern(rt.alloc(), 5 * 1024)?;
-    let plan = Plan::new(rt.alloc(), &input, Mode::hash(), 1)?;
+    let plan = by_grain(rt.alloc(), &input, 1)?;
     dropped(&rt, rt.alloc(), &plan)
 }

@@ -12,6 +12,16 @@ use std::test::Fail;
 use std::thread;
 use std::thread::Threads;
 
+// A claim, of which its caller compares the answer.
+fn try_claim(claims: &Claims, seat: &mut Seat, i: usize) -> bool
+    requires index { i < claims.now.count }
+    requires own { IsSeatOf claims.now seat.old }
+    ensures own { IsSeatOf claims.now seat.new }
+    ensures parts { seat.new.view.parts ≡ seat.old.view.parts }
+{
+    claims.try_claim(seat, i)
+}
+
 #[test]
 fn three_seats_claim_in_turn(rt: HostRuntime) -> Result<(), Fail> {
     let (claims, mut first) = Claims::new(rt.alloc(), 3)?;
@@ -19,13 +29,13 @@ fn three_seats_claim_in_turn(rt: HostRuntime) -> Result<(), Fail> {
     let mut second = claims.split(&mut first);
     let mut third = claims.split(&mut first);
     assert_eq!(&rt; (first.parts(), second.parts(), third.parts()), (126, 1, 1));
-    assert!(&rt; claims.try_claim(&mut second, 2));
-    assert!(&rt; !claims.try_claim(&mut second, 2));
+    assert!(&rt; try_claim(&claims, &mut second, 2));
+    assert!(&rt; !try_claim(&claims, &mut second, 2));
     assert_eq!(&rt; second.claimed(), [2u32].as_slice());
-    assert!(&rt; !claims.try_claim(&mut third, 2));
-    assert!(&rt; claims.try_claim(&mut third, 0));
+    assert!(&rt; !try_claim(&claims, &mut third, 2));
+    assert!(&rt; try_claim(&claims, &mut third, 0));
     assert_eq!(&rt; third.claimed(), [0u32].as_slice());
-    assert!(&rt; claims.try_claim(&mut first, 1));
+    assert!(&rt; try_claim(&claims, &mut first, 1));
     assert_eq!(&rt; first.claimed(), [1u32].as_slice());
     claims.join(&mut first, second);
     claims.join(&mut first, third);
@@ -41,9 +51,9 @@ fn three_seats_claim_in_turn(rt: HostRuntime) -> Result<(), Fail> {
 fn two_seats_claim_in_turn(rt: HostRuntime) -> Result<(), Fail> {
     let (claims, mut first) = Claims::new(rt.alloc(), 3)?;
     let mut second = claims.split(&mut first);
-    assert!(&rt; claims.try_claim(&mut first, 0) && !claims.try_claim(&mut second, 0));
-    assert!(&rt; claims.try_claim(&mut second, 1) && !claims.try_claim(&mut first, 1));
-    assert!(&rt; claims.try_claim(&mut first, 2) && !claims.try_claim(&mut second, 2));
+    assert!(&rt; try_claim(&claims, &mut first, 0) && !try_claim(&claims, &mut second, 0));
+    assert!(&rt; try_claim(&claims, &mut second, 1) && !try_claim(&claims, &mut first, 1));
+    assert!(&rt; try_claim(&claims, &mut first, 2) && !try_claim(&claims, &mut second, 2));
     claims.join(&mut first, second);
     assert_eq!(&rt; claims.close(first).as_slice(), [0u32, 2, 1].as_slice());
     Ok(())
@@ -54,12 +64,12 @@ fn two_seats_claim_in_turn(rt: HostRuntime) -> Result<(), Fail> {
 fn a_seat_that_is_dropped(rt: HostRuntime) -> Result<(), Fail> {
     let (claims, mut first) = Claims::new(rt.alloc(), 2)?;
     let mut dropped = claims.split(&mut first);
-    assert!(&rt; claims.try_claim(&mut dropped, 0));
+    assert!(&rt; try_claim(&claims, &mut dropped, 0));
     drop(dropped);
     assert_eq!(&rt; first.parts(), 127);
-    assert!(&rt; !claims.try_claim(&mut first, 0) && claims.try_claim(&mut first, 1));
+    assert!(&rt; !try_claim(&claims, &mut first, 0) && try_claim(&claims, &mut first, 1));
     let mut second = claims.split(&mut first);
-    assert!(&rt; !claims.try_claim(&mut second, 0) && !claims.try_claim(&mut second, 1));
+    assert!(&rt; !try_claim(&claims, &mut second, 0) && !try_claim(&claims, &mut second, 1));
     claims.join(&mut first, second);
     assert_eq!(&rt; (first.parts(), first.claimed()), (127, [1u32].as_slice()));
     Ok(())
@@ -72,7 +82,7 @@ fn claim_all(claims: &Claims, mut seat: Seat, n: usize) -> Seat
     ensures parts { result.view.parts ≡ seat.view.parts }
 {
     for i in 0..n {
-        claims.try_claim(&mut seat, i);
+        try_claim(&claims, &mut seat, i);
     }
     seat
 }

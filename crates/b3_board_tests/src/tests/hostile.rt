@@ -4,9 +4,10 @@ ghost use Rattle.std.specs.Prelude.{◌≡◌, length};
 ghost use Rattle.b3_board.specs.Plans.{IsPlanOf};
 ghost use Rattle.b3_board.specs.Seats.{IsSeatOf};
 
+use super::memory::by_grain;
 use super::workers::Yielding;
-use super::{pattern, root_of};
-use b3_board::{Board, Claims, Done, Ended, Plan, Planned, Refused, Share, worker};
+use super::{assert_root, counts, open_board, pattern, sweep};
+use b3_board::{Board, BoardFault, Claims, Done, Ended, Plan, Planned, Refused, Share, worker};
 use b3_core::{Mode, Span};
 use std::alloc::Global;
 use std::marker::{Brand, Send, Sync};
@@ -26,6 +27,15 @@ fn is_open<'a, L: Planned>(board: &Board<'a, L>, span: Span) -> bool {
     false
 }
 
+// A deposit, of which its caller compares what it did.
+fn put<'a, L: Planned>(
+    board: &mut Board<'a, L>,
+    share: &mut Share<L>,
+    done: Done<'a>,
+) -> Result<(), Refused<'a>> {
+    board.deposit(done, share)
+}
+
 // Deposits what is done. It is taken where its span is open and its plan is the board's; else it comes back by
 // the name of the first of both that does not hold, and neither board nor share has changed.
 fn deposit_checked<'a, L: Planned>(
@@ -37,12 +47,17 @@ fn deposit_checked<'a, L: Planned>(
 ) {
     let (span, node) = (done.span(), done.node());
     let is_open = is_open(board, span);
-    let before = (board.deposited(), board.waiting(), share.chunks());
-    let back = match board.deposit(done, share) {
+    let before = counts(board, share);
+    let back = match put(board, share, done) {
         Ok(()) => {
             assert!(rt; is_open && is_own);
-            assert_eq!(rt; board.deposited(), before.0.wrapping_add(span.count));
-            assert_eq!(rt; share.chunks(), before.2.wrapping_add(span.count));
+            let (deposited, waiting, chunks) = before;
+            let want = (
+                deposited.wrapping_add(span.count),
+                waiting.wrapping_sub(span.count),
+                chunks.wrapping_add(span.count),
+            );
+            assert_eq!(rt; counts(board, share), want);
             return;
         }
         Err(Refused::NotOpen(back)) => {
@@ -55,10 +70,7 @@ fn deposit_checked<'a, L: Planned>(
         }
     };
     assert_eq!(rt; (back.span(), back.node()), (span, node));
-    assert_eq!(rt;
-        (board.deposited(), board.waiting(), share.chunks()),
-        before
-    );
+    assert_eq!(rt; counts(board, share), before);
 }
 
 // Deposits span `i` of the plan twice, where the plan has so many.
@@ -101,6 +113,34 @@ fn deposit_all<'a, L: Planned, R: Wait + Abort>(
     }
 }
 
+// Runs the two beside one another, and gives what both hold after it.
+fn work_beside<'a, L: Planned + Send + Sync, R: Threads + Wait + Abort + Sync>(
+    rt: &R,
+    alloc: Global,
+    board: &Mutex<Board<'a, L>>,
+    share: Share<L>,
+    mut theirs: Share<L>,
+    plan: &Plan<'a>,
+    other: &Plan<'a>,
+    keyed: &Plan<'a>,
+    later: &Plan<'a>,
+    coarse: &Plan<'a>,
+) -> Result<(Ended<L>, Share<L>), BoardFault>
+    requires { IsPlanOf L.input L.mode L.first plan.now }
+{
+    let (claims, seat) = Claims::new(alloc, plan.len())?;
+    let (ended, _) = thread::join(
+        rt,
+        || -> Ended<L>
+            requires { IsPlanOf L.input L.mode L.first plan.now
+                × (claims.count ≡ length plan.now.spans)
+                × IsSeatOf claims seat }
+        { worker(rt, plan, board, &claims, seat, share, 0, &Yielding) },
+        || deposit_all(rt, board, &mut theirs, plan, other, keyed, later, coarse),
+    );
+    Ok((ended, theirs))
+}
+
 fn beside_on<'a, L: Planned + Send + Sync, R: Threads + Wait + Abort + Sync>(
     rt: &R,
     alloc: Global,
@@ -116,29 +156,21 @@ fn beside_on<'a, L: Planned + Send + Sync, R: Threads + Wait + Abort + Sync>(
     requires whole { L.parts ≡ 128 }
     requires own { IsPlanOf L.input L.mode L.first plan.now }
 {
-    let (board, mut share) = Board::<'a, L>::new(alloc, plan, blank)?;
+    let (board, mut share) = open_board::<L>(alloc, plan, blank)?;
+    assert!(rt; share.parts() == 128);
+    let theirs = share.split();
     let board = Mutex::new(board);
-    let (claims, seat) = Claims::new(alloc, plan.len())?;
-    let mut theirs = share.split();
-    let (ended, _) = thread::join(
-        rt,
-        || -> Ended<L>
-            requires { IsPlanOf L.input L.mode L.first plan.now
-                × (claims.count ≡ length plan.now.spans)
-                × IsSeatOf claims seat }
-        { worker(rt, plan, &board, &claims, seat, share, 0, &Yielding) },
-        || deposit_all(rt, &board, &mut theirs, plan, other, keyed, later, coarse),
-    );
+    let (ended, mut theirs) = work_beside(
+        rt, alloc, &board, share, theirs, plan, other, keyed, later, coarse,
+    )?;
     let mut board = board.into_inner();
     assert_eq!(rt; ended.seat.claimed().len(), plan.len());
     assert_eq!(rt;
         ended.share.chunks().wrapping_add(theirs.chunks()),
         board.deposited()
     );
-    assert_eq!(rt; board.sweep(&mut theirs), 0);
-    let root = board.root().expect(rt, "a root");
-    assert!(rt; root.kept());
-    assert_eq!(rt; root.node(), root_of(rt, plan.input()));
+    assert_eq!(rt; sweep(&mut board, &mut theirs), 0);
+    assert_root(rt, &board, plan.input());
     Ok(())
 }
 
@@ -161,11 +193,11 @@ fn an_honest_worker_beside_a_hostile_one(rt: HostRuntime) -> Result<(), Fail> {
     let alloc = rt.alloc();
     let input = pattern(alloc, 16 * 1024)?;
     let zeros = vec![in alloc; 0; 16 * 1024]?;
-    let plan = Plan::new(alloc, &input, Mode::hash(), 1)?;
-    let other = Plan::new(alloc, &zeros, Mode::hash(), 1)?;
+    let plan = by_grain(alloc, &input, 1)?;
+    let other = by_grain(alloc, &zeros, 1)?;
     let keyed = Plan::new(alloc, &input, Mode::keyed(&[7; 32]), 1)?;
     let later = Plan::at(alloc, &input, Mode::hash(), 16, 1)?;
-    let coarse = Plan::new(alloc, &input, Mode::hash(), 2)?;
+    let coarse = by_grain(alloc, &input, 2)?;
     for _ in 0..20usize {
         beside(&rt, alloc, &plan, &other, &keyed, &later, &coarse)?;
     }
@@ -185,15 +217,14 @@ fn alone_on<'a, L: Planned>(
     requires whole { L.parts ≡ 128 }
     requires own { IsPlanOf L.input L.mode L.first plan.now }
 {
-    let (mut board, mut share) = Board::<'a, L>::new(alloc, plan, blank)?;
+    let (mut board, mut share) = open_board::<L>(alloc, plan, blank)?;
     assert!(rt; board.is_over(plan) && !board.is_over(other));
     for i in 0..other.len() {
         let done = other.job(i).expect(rt, "a job").work();
         deposit_checked(rt, &mut board, &mut share, done, false);
     }
-    assert_eq!(rt; board.sweep(&mut share), 5);
-    let root = board.root().expect(rt, "a root");
-    assert_eq!(rt; root.node(), root_of(rt, plan.input()));
+    assert_eq!(rt; sweep(&mut board, &mut share), 5);
+    assert_root(rt, &board, plan.input());
     Ok(())
 }
 
@@ -204,7 +235,7 @@ fn alone(rt: &impl Abort, alloc: Global, plan: &Plan, other: &Plan) -> Result<()
 #[test]
 fn a_board_over_another_plan(rt: HostRuntime) -> Result<(), Fail> {
     let input = pattern(rt.alloc(), 5 * 1024)?;
-    let plan = Plan::new(rt.alloc(), &[7; 5 * 1024], Mode::hash(), 1)?;
-    let other = Plan::new(rt.alloc(), &input, Mode::hash(), 1)?;
+    let plan = by_grain(rt.alloc(), &[7; 5 * 1024], 1)?;
+    let other = by_grain(rt.alloc(), &input, 1)?;
     alone(&rt, rt.alloc(), &plan, &other)
 }

@@ -1,10 +1,13 @@
 // What is answered where a growth is refused.
 
-ghost use Rattle.std.specs.Prelude.{◌≡◌};
+ghost use Rattle.std.specs.Prelude.{◌≡◌, length};
 ghost use Rattle.b3_board.specs.Plans.{IsPlanOf};
+ghost use Rattle.b3_board.specs.Seats.{IsSeatOf};
 
-use super::span;
-use b3_board::{Board, BoardFault, Claims, OpenGate, Plan, Planned, default_grain, worker};
+use super::{deposit, open_board, span, sweep};
+use b3_board::{
+    Board, BoardFault, Claims, OpenGate, Plan, Planned, Seat, Share, default_grain, worker,
+};
 use b3_core::{Mode, Span};
 use std::alloc::Global;
 use std::marker::Brand;
@@ -23,7 +26,11 @@ macro_rules! answered {
     };
 }
 
-fn by_grain<'a>(alloc: Global, input: &'a [u8], grain: u64) -> Result<Plan<'a>, BoardFault> {
+pub(super) fn by_grain<'a>(
+    alloc: Global,
+    input: &'a [u8],
+    grain: u64,
+) -> Result<Plan<'a>, BoardFault> {
     answered!(Plan::new(alloc, input, Mode::hash(), grain))
 }
 
@@ -35,7 +42,7 @@ fn part_by_grain<'a>(
     answered!(Plan::at(alloc, input, Mode::hash(), 16384, grain))
 }
 
-fn by_cutting<'a>(
+pub(super) fn by_cutting<'a>(
     alloc: Global,
     input: &'a [u8],
     cutting: &[Span],
@@ -63,13 +70,27 @@ fn swept_on<'a, L: Planned>(
     requires whole { L.parts ≡ 128 }
     requires own { IsPlanOf L.input L.mode L.first plan.now }
 {
-    let (mut board, mut share) = Board::<'a, L>::new(alloc, plan, blank)?;
+    let (mut board, mut share) = open_board::<L>(alloc, plan, blank)?;
     assert_eq!(rt; board.open_spans(), plan.len());
-    Ok(board.sweep(&mut share))
+    Ok(sweep(&mut board, &mut share))
 }
 
 fn swept(rt: &impl Abort, alloc: Global, plan: &Plan) -> Result<u64, BoardFault> {
     swept_on::<Brand>(rt, alloc, plan, Blank::new(128))
+}
+
+// A plan of three chunks has this first chunk and so many spans, the last of one chunk, and leaves all to the sweep.
+fn assert_plan(
+    rt: &impl Abort,
+    alloc: Global,
+    plan: &Plan,
+    first: u64,
+    len: usize,
+) -> Result<(), BoardFault> {
+    assert_eq!(rt; (plan.first(), plan.len()), (first, len));
+    assert_eq!(rt; plan.span(len.saturating_sub(1)), Some(span(2, 1)));
+    assert_eq!(rt; answered!(swept(rt, alloc, plan))?, 3);
+    Ok(())
 }
 
 /// Each growth is refused in turn by `make refused`.
@@ -77,16 +98,17 @@ fn swept(rt: &impl Abort, alloc: Global, plan: &Plan) -> Result<u64, BoardFault>
 fn refused_memory_is_answered(rt: HostRuntime) -> Result<(), Fail> {
     let alloc = rt.alloc();
     let input = [7u8; 3000];
-    let equal = by_grain(alloc, &input, 1)?;
-    assert_eq!(&rt; (equal.len(), equal.span(2)), (3, Some(span(2, 1))));
-    let cut = by_cutting(alloc, &input, &[span(0, 2), span(2, 1)])?;
-    assert_eq!(&rt; (cut.len(), cut.span(1)), (2, Some(span(2, 1))));
-    let part = part_by_grain(alloc, &input, 2)?;
-    assert_eq!(&rt; (part.first(), part.len()), (16384, 2));
-    let part = part_by_cutting(alloc, &input, &[span(0, 2), span(2, 1)])?;
-    assert_eq!(&rt; (part.first(), part.len()), (16384, 2));
-    assert_eq!(&rt; answered!(swept(&rt, alloc, &equal))?, 3);
-    assert_eq!(&rt; answered!(swept(&rt, alloc, &cut))?, 3);
+    assert_plan(&rt, alloc, &by_grain(alloc, &input, 1)?, 0, 3)?;
+    let cutting = [span(0, 2), span(2, 1)];
+    assert_plan(&rt, alloc, &by_cutting(alloc, &input, &cutting)?, 0, 2)?;
+    assert_plan(&rt, alloc, &part_by_grain(alloc, &input, 2)?, 16384, 2)?;
+    assert_plan(
+        &rt,
+        alloc,
+        &part_by_cutting(alloc, &input, &cutting)?,
+        16384,
+        2,
+    )?;
     assert_eq!(&rt;
         by_grain(alloc, &input, 3).err(),
         Some(BoardFault::BadGrain)
@@ -99,6 +121,41 @@ fn refused_memory_is_answered(rt: HostRuntime) -> Result<(), Fail> {
 pub(super) fn last_growth(alloc: Global) -> Result<(), BoardFault> {
     let _room = Vec::<u8>::with_capacity(alloc, 1)?;
     Ok(())
+}
+
+// A share of all parts is split and joined, and audited. One part is handed over.
+fn share_calls<'a, L: Planned>(
+    rt: &impl Abort,
+    board: &mut Board<'a, L>,
+    share: &mut Share<L>,
+) -> Share<L> {
+    assert!(rt; share.parts() == 128 && share.chunks() == 0);
+    let part = share.split();
+    share.join(part);
+    board.audit(share);
+    share.split()
+}
+
+// A worker goes through the spans, its seat is joined, and the claims are closed. How many chunks it deposited, and how
+// many claims there were.
+fn claim_calls<'a, L: Planned, R: Wait + Abort>(
+    rt: &R,
+    plan: &Plan<'a>,
+    board: &Mutex<Board<'a, L>>,
+    claims: Claims,
+    mut seat: Seat,
+    theirs: Share<L>,
+) -> (u64, usize)
+    requires plan { IsPlanOf L.input L.mode L.first plan.now }
+    requires count { claims.count ≡ length plan.now.spans }
+    requires own { IsSeatOf claims seat }
+{
+    assert!(rt; seat.parts() == 128);
+    let other = claims.split(&mut seat);
+    let ended = worker(rt, plan, board, &claims, other, theirs, 1, &OpenGate);
+    claims.join(&mut seat, ended.seat);
+    assert!(rt; seat.parts() == 128);
+    (ended.share.chunks(), claims.close(seat).len())
 }
 
 // Makes a board and claims, then perhaps calls everything that is said to take no memory: seats and shares are split
@@ -116,33 +173,24 @@ fn growths_on<'a, L: Planned, R: Wait + Abort>(
     requires whole { L.parts ≡ 128 }
     requires own { IsPlanOf L.input L.mode L.first plan.now }
 {
-    let (mut board, mut share) = Board::<'a, L>::new(alloc, plan, blank)?;
-    let (claims, mut seat) = Claims::new(alloc, plan.len())?;
+    let (mut board, mut share) = open_board::<L>(alloc, plan, blank)?;
+    let (claims, seat) = Claims::new(alloc, plan.len())?;
     if !with_calls {
         return last_growth(alloc);
     }
-    let other = claims.split(&mut seat);
-    let part = share.split();
-    share.join(part);
-    board.audit(&mut share);
-    let theirs = share.split();
+    let theirs = share_calls(rt, &mut board, &mut share);
     for _ in 0..2usize {
-        let done = plan.job(0).expect(rt, "a job").work();
-        let _refused = board.deposit(done, &mut share);
+        let _refused = deposit(rt, &mut board, &mut share, plan, 0);
     }
     let board = Mutex::new(board);
-    let ended = worker(rt, plan, &board, &claims, other, theirs, 1, &OpenGate);
+    let deposited = claim_calls(rt, plan, &board, claims, seat, theirs);
+    assert_eq!(rt; deposited, (2, plan.len()));
     let mut board = board.into_inner();
     assert!(rt; board.is_over(plan));
     assert_eq!(rt; default_grain(3), 16);
-    claims.join(&mut seat, ended.seat);
-    assert_eq!(rt; board.sweep(&mut share), 0);
-    assert_eq!(rt; (share.chunks(), ended.share.chunks()), (1, 2));
-    assert_eq!(rt;
-        plan.plain().node(),
-        board.root().expect(rt, "a root").node()
-    );
-    assert_eq!(rt; claims.close(seat).len(), plan.len());
+    assert_eq!(rt; (sweep(&mut board, &mut share), share.chunks()), (0, 1));
+    let root = board.root().expect(rt, "a root");
+    assert_eq!(rt; plan.plain().node(), root.node());
     last_growth(alloc)
 }
 

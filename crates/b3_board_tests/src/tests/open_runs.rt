@@ -1,7 +1,9 @@
 // Runs behind gates that say that they hold no worker, as the program's gate does, and yet wait.
 
+use super::memory::{by_cutting, by_grain};
+use super::workers::run;
 use super::{pattern, root_of, span};
-use b3_board::{CHUNKS_A_THREAD, Gate, Plan, hash_parallel};
+use b3_board::{CHUNKS_A_THREAD, Gate};
 use b3_core::{CHUNK_LEN, Mode, top};
 use std::sync::atomic::{AtomicBool, AtomicU64, Ordering};
 use std::test::Fail;
@@ -67,10 +69,11 @@ fn all_workers_at_once(rt: HostRuntime) -> Result<(), Fail> {
     let input = pattern(rt.alloc(), 64 * CHUNKS_A_THREAD as usize * CHUNK_LEN)?;
     for workers in [2u32, 3, 4, 64] {
         let part = &input[..workers as usize * CHUNKS_A_THREAD as usize * CHUNK_LEN];
-        let plan = Plan::new(rt.alloc(), part, Mode::hash(), 64)?;
+        let plan = by_grain(rt.alloc(), part, 64)?;
         let gate = Meeting::new(workers);
-        let report = hash_parallel(&rt, rt.alloc(), &plan, workers, &gate)?;
+        let report = run(&rt, rt.alloc(), &plan, workers, &gate)?;
         assert!(&rt; gate.have_met(), "{workers} workers");
+        assert_eq!(&rt; gate.workers.load(Ordering::SeqCst).count_ones(), workers);
         assert_eq!(&rt; report.root.node(), root_of(&rt, part));
         assert_eq!(&rt; report.swept, 0);
     }
@@ -81,10 +84,10 @@ fn all_workers_at_once(rt: HostRuntime) -> Result<(), Fail> {
 #[test]
 fn numbers_of_workers_and_of_spans(rt: HostRuntime) -> Result<(), Fail> {
     let input = pattern(rt.alloc(), 2 * CHUNKS_A_THREAD as usize * CHUNK_LEN)?;
-    let plan = Plan::new(rt.alloc(), &input, Mode::hash(), 32)?;
+    let plan = by_grain(rt.alloc(), &input, 32)?;
     assert_eq!(&rt; plan.len(), 8);
     let gate = Meeting::new(2);
-    hash_parallel(&rt, rt.alloc(), &plan, 2, &gate)?;
+    run(&rt, rt.alloc(), &plan, 2, &gate)?;
     assert_eq!(&rt; gate.workers.load(Ordering::SeqCst), 0b11);
     assert_eq!(&rt; gate.spans.load(Ordering::SeqCst), 0xff);
     assert_eq!(&rt; gate.calls.load(Ordering::SeqCst), 8);
@@ -150,7 +153,7 @@ impl BesideALongSpan<'_> {
 fn no_span_is_hashed_under_the_lock(rt: HostRuntime) -> Result<(), Fail> {
     let input = pattern(rt.alloc(), (LONG + 2 * SHORT) as usize * CHUNK_LEN)?;
     let cutting = [span(0, LONG), span(LONG, SHORT), span(LONG + SHORT, SHORT)];
-    let plan = Plan::cut(rt.alloc(), &input, Mode::hash(), &cutting)?;
+    let plan = by_cutting(rt.alloc(), &input, &cutting)?;
     let part = [0; 16_384];
     let mut is_seen = false;
     for _ in 0..100usize {
@@ -164,7 +167,7 @@ fn no_span_is_hashed_under_the_lock(rt: HostRuntime) -> Result<(), Fail> {
             is_before: AtomicBool::new(false),
             is_soon: AtomicBool::new(false),
         };
-        hash_parallel(&rt, rt.alloc(), &plan, 2, &gate)?;
+        run(&rt, rt.alloc(), &plan, 2, &gate)?;
         is_seen = gate.is_before.load(Ordering::SeqCst) && gate.is_soon.load(Ordering::SeqCst);
     }
     assert!(&rt; is_seen);

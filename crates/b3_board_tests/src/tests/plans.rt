@@ -1,32 +1,34 @@
 // Which cuttings and grains are taken.
 
+use super::memory::{by_cutting, by_grain};
 use super::{pattern, span};
 use b3_board::{BoardFault, Plan, default_grain};
 use b3_core::{Mode, Span};
+use std::alloc::Global;
+use std::process::Abort;
 use std::test::Fail;
+
+// A plan of a part of an input, whose chunks are numbered from 16,384.
+fn cut_later<'a>(
+    rt: &impl Abort,
+    alloc: Global,
+    input: &'a [u8],
+    cutting: &[Span],
+) -> Result<Plan<'a>, BoardFault> {
+    assert!(rt; input.len() <= 1 << 30);
+    Plan::cut_at(alloc, input, Mode::hash(), 16384, cutting)
+}
 
 #[test]
 fn cuttings_that_are_taken_and_refused(rt: HostRuntime) -> Result<(), Fail> {
     let alloc = rt.alloc();
     let input = pattern(alloc, 6 * 1024)?;
-    let taken = Plan::cut_at(
-        alloc,
-        &input,
-        Mode::hash(),
-        16384,
-        &[span(0, 4), span(4, 2)],
-    )?;
+    let taken = cut_later(&rt, alloc, &input, &[span(0, 4), span(4, 2)])?;
     assert_eq!(&rt;
         (taken.first(), taken.len(), taken.span(2)),
         (16384, 2, None)
     );
-    let between = Plan::cut_at(
-        alloc,
-        &input,
-        Mode::hash(),
-        16384,
-        &[span(0, 2), span(2, 4)],
-    );
+    let between = cut_later(&rt, alloc, &input, &[span(0, 2), span(2, 4)]);
     assert_eq!(&rt; between.err(), Some(BoardFault::BadCut));
     let refused: [&[Span]; 7] = [
         &[span(0, 2), span(2, 4)],
@@ -38,10 +40,8 @@ fn cuttings_that_are_taken_and_refused(rt: HostRuntime) -> Result<(), Fail> {
         &[span(0, 4), span(4, 2), span(6, 1)],
     ];
     for spans in refused {
-        assert_eq!(&rt;
-            Plan::cut(alloc, &input, Mode::hash(), spans).err(),
-            Some(BoardFault::BadCut)
-        );
+        let found = by_cutting(alloc, &input, spans);
+        assert_eq!(&rt; found.err(), Some(BoardFault::BadCut));
     }
     Ok(())
 }
@@ -50,22 +50,24 @@ fn cuttings_that_are_taken_and_refused(rt: HostRuntime) -> Result<(), Fail> {
 fn grains_that_are_taken_and_refused(rt: HostRuntime) -> Result<(), Fail> {
     let alloc = rt.alloc();
     let input = pattern(alloc, 1024 * 1024 + 1)?;
-    assert_eq!(&rt;
-        Plan::new(alloc, &input, Mode::hash(), 1).err(),
-        Some(BoardFault::TooManySpans)
-    );
-    let plan = Plan::new(alloc, &input, Mode::hash(), 1024)?;
+    for (grain, fault) in [
+        (1u64, BoardFault::TooManySpans),
+        (0, BoardFault::BadGrain),
+        (3, BoardFault::BadGrain),
+        (1 << 21, BoardFault::BadGrain),
+    ] {
+        assert_eq!(&rt;
+            by_grain(alloc, &input, grain).err(),
+            Some(fault),
+            "{grain}"
+        );
+    }
+    let plan = by_grain(alloc, &input, 1024)?;
     assert_eq!(&rt;
         (plan.span(0), plan.span(1)),
         (Some(span(0, 1024)), Some(span(1024, 1)))
     );
-    for grain in [0u64, 3, 1 << 21] {
-        assert_eq!(&rt;
-            Plan::new(alloc, &input, Mode::hash(), grain).err(),
-            Some(BoardFault::BadGrain)
-        );
-    }
-    let none = Plan::new(alloc, &[], Mode::hash(), 1)?;
+    let none = by_grain(alloc, &[], 1)?;
     assert_eq!(&rt; (none.len(), none.span(0)), (1, Some(span(0, 1))));
     Ok(())
 }
@@ -83,12 +85,7 @@ fn default_grains(rt: HostRuntime) -> Result<(), Fail> {
         assert_eq!(&rt; (told, n.div_ceil(grain)), (grain, spans), "{n} chunks");
     }
     let input = vec![in rt.alloc(); 0; (1 << 24) + 1]?;
-    let plan = Plan::new(
-        rt.alloc(),
-        &input,
-        Mode::hash(),
-        default_grain((1 << 14) + 1),
-    )?;
+    let plan = by_grain(rt.alloc(), &input, default_grain((1 << 14) + 1))?;
     assert_eq!(&rt; (plan.len(), plan.span(512)), (513, Some(span(1 << 14, 1))));
     Ok(())
 }

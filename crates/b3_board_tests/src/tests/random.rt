@@ -2,9 +2,9 @@
 
 ghost use Rattle.std.specs.Prelude.{◌<◌};
 
+use super::memory::by_cutting;
 use super::{in_order, pattern, root_of, span};
-use b3_board::Plan;
-use b3_core::{Mode, Span, left};
+use b3_core::{Span, left};
 use std::alloc::{AllocError, Global};
 use std::process::Abort;
 use std::test::Fail;
@@ -83,7 +83,7 @@ fn random_cuttings_and_orders(rt: HostRuntime) -> Result<(), Fail> {
         let part = &input[..len];
         let n = b3_core::chunks(len as u64);
         let cutting = cut_at_random(&rt, alloc, &mut chance, n, whole)?;
-        let plan = Plan::cut(alloc, part, Mode::hash(), &cutting)?;
+        let plan = by_cutting(alloc, part, &cutting)?;
         assert!(&rt; turn > 0 || plan.len() == 1024);
         let mut order = Vec::with_capacity(alloc, plan.len())?;
         for i in 0..plan.len() {

@@ -3,9 +3,9 @@
 ghost use Rattle.std.specs.Prelude.{◌≡◌};
 ghost use Rattle.b3_board.specs.Plans.{IsPlanOf};
 
-use super::memory::last_growth;
+use super::memory::{by_cutting, by_grain, last_growth};
 use super::random::{Chance, cut_at_random};
-use super::{pattern, root_of};
+use super::{assert_root, open_board, pattern, root_of};
 use b3_board::{
     Board, BoardFault, Claims, Ended, Gate, OpenGate, Plan, Planned, Report, Share, hash_parallel,
     worker,
@@ -81,6 +81,17 @@ pub(super) fn sum_of(report: &Report) -> u64 {
     sum
 }
 
+// A run over a plan, of which its caller compares the report.
+pub(super) fn run<R: Threads + Wait + Sync, G: Gate + Sync>(
+    rt: &R,
+    alloc: Global,
+    plan: &Plan,
+    workers: u32,
+    gate: &G,
+) -> Result<Report, BoardFault> {
+    hash_parallel(rt, alloc, plan, workers, gate)
+}
+
 fn assert_claimed_once(rt: &impl Abort, plan: &Plan, report: &Report) {
     assert_eq!(rt; report.claimed.len(), plan.len());
     for i in 0..plan.len() {
@@ -101,8 +112,8 @@ fn assert_report(rt: &impl Abort, plan: &Plan, workers: u32, report: &Report) {
 
 #[test]
 fn nothing_and_64_workers(rt: HostRuntime) -> Result<(), Fail> {
-    let plan = Plan::new(rt.alloc(), &[], Mode::hash(), 1)?;
-    let report = hash_parallel(&rt, rt.alloc(), &plan, 64, &OpenGate)?;
+    let plan = by_grain(rt.alloc(), &[], 1)?;
+    let report = run(&rt, rt.alloc(), &plan, 64, &OpenGate)?;
     assert_report(&rt, &plan, 64, &report);
     assert_eq!(&rt; report.claimed.as_slice(), [0u32].as_slice());
     let output = report.root.node().block(0);
@@ -112,7 +123,7 @@ fn nothing_and_64_workers(rt: HostRuntime) -> Result<(), Fail> {
     );
     for workers in [0u32, 65] {
         assert_eq!(&rt;
-            hash_parallel(&rt, rt.alloc(), &plan, workers, &OpenGate).err(),
+            run(&rt, rt.alloc(), &plan, workers, &OpenGate).err(),
             Some(BoardFault::BadWorkers)
         );
     }
@@ -124,8 +135,8 @@ fn nothing_and_64_workers(rt: HostRuntime) -> Result<(), Fail> {
 fn nothing_swept(rt: HostRuntime) -> Result<(), Fail> {
     let input = pattern(rt.alloc(), 32 * 1024)?;
     for (len, workers) in [(0usize, 64u32), (32 * 1024, 2)] {
-        let plan = Plan::new(rt.alloc(), &input[..len], Mode::hash(), 16)?;
-        let report = hash_parallel(&rt, rt.alloc(), &plan, workers, &Yielding)?;
+        let plan = by_grain(rt.alloc(), &input[..len], 16)?;
+        let report = run(&rt, rt.alloc(), &plan, workers, &Yielding)?;
         assert_eq!(&rt; report.swept, 0);
         assert!(&rt; report.root.kept());
     }
@@ -135,9 +146,9 @@ fn nothing_swept(rt: HostRuntime) -> Result<(), Fail> {
 #[test]
 fn two_at_once(rt: HostRuntime) -> Result<(), Fail> {
     let input = pattern(rt.alloc(), 32 * 1024)?;
-    let plan = Plan::new(rt.alloc(), &input, Mode::hash(), 16)?;
+    let plan = by_grain(rt.alloc(), &input, 16)?;
     let gate = TwoAtOnce::new();
-    let report = hash_parallel(&rt, rt.alloc(), &plan, 2, &gate)?;
+    let report = run(&rt, rt.alloc(), &plan, 2, &gate)?;
     assert_eq!(&rt; gate.met.load(Ordering::SeqCst), 1);
     assert_eq!(&rt;
         (
@@ -162,11 +173,11 @@ fn random_cuttings_and_workers(rt: HostRuntime) -> Result<(), Fail> {
         assert!(&rt; len <= input.len());
         let part = &input[..len];
         let cutting = cut_at_random(&rt, alloc, &mut chance, chunks(len as u64), 8)?;
-        let plan = Plan::cut(alloc, part, Mode::hash(), &cutting)?;
+        let plan = by_cutting(alloc, part, &cutting)?;
         for workers in [1u32, 2, 4, 64] {
-            let report = hash_parallel(&rt, alloc, &plan, workers, &OpenGate)?;
+            let report = run(&rt, alloc, &plan, workers, &OpenGate)?;
             assert_report(&rt, &plan, workers, &report);
-            let report = hash_parallel(&rt, alloc, &plan, workers, &Yielding)?;
+            let report = run(&rt, alloc, &plan, workers, &Yielding)?;
             assert_report(&rt, &plan, workers, &report);
         }
     }
@@ -176,9 +187,9 @@ fn random_cuttings_and_workers(rt: HostRuntime) -> Result<(), Fail> {
 #[test]
 fn two_workers_a_thousand_times(rt: HostRuntime) -> Result<(), Fail> {
     let input = pattern(rt.alloc(), 64 * 1024)?;
-    let plan = Plan::new(rt.alloc(), &input, Mode::hash(), 1)?;
+    let plan = by_grain(rt.alloc(), &input, 1)?;
     for _ in 0..1000usize {
-        let report = hash_parallel(&rt, rt.alloc(), &plan, 2, &Yielding)?;
+        let report = run(&rt, rt.alloc(), &plan, 2, &Yielding)?;
         assert_claimed_once(&rt, &plan, &report);
     }
     Ok(())
@@ -196,7 +207,7 @@ fn answers_of_two<R: Threads + Wait + Abort + Sync, G: Gate + Sync>(
         let Ok(plan) = Plan::new(alloc, &input, Mode::hash(), 1) else {
             continue;
         };
-        match hash_parallel(rt, alloc, &plan, 4, gate) {
+        match run(rt, alloc, &plan, 4, gate) {
             Ok(report) => {
                 assert_report(rt, &plan, 4, &report);
                 answers = answers.wrapping_add(1);
@@ -223,6 +234,20 @@ fn refused_memory_of_a_run_in_four_threads(rt: HostRuntime) -> Result<(), Fail> 
     Ok(())
 }
 
+// What a worker alone leaves.
+fn work_alone<'a, L: Planned, R: Wait>(
+    rt: &R,
+    alloc: Global,
+    plan: &Plan<'a>,
+    board: &Mutex<Board<'a, L>>,
+    share: Share<L>,
+) -> Result<Ended<L>, BoardFault>
+    requires { IsPlanOf L.input L.mode L.first plan.now }
+{
+    let (claims, seat) = Claims::new(alloc, plan.len())?;
+    Ok(worker(rt, plan, board, &claims, seat, share, 0, &OpenGate))
+}
+
 // A worker alone deposits every span.
 fn alone_on<'a, L: Planned, R: Wait + Abort>(
     rt: &R,
@@ -235,16 +260,13 @@ fn alone_on<'a, L: Planned, R: Wait + Abort>(
     requires whole { L.parts ≡ 128 }
     requires own { IsPlanOf L.input L.mode L.first plan.now }
 {
-    let (board, share) = Board::<'a, L>::new(alloc, plan, blank)?;
+    let (board, share) = open_board::<L>(alloc, plan, blank)?;
     let board = Mutex::new(board);
-    let (claims, seat) = Claims::new(alloc, plan.len())?;
-    let ended = worker(rt, plan, &board, &claims, seat, share, 0, &OpenGate);
+    let ended = work_alone(rt, alloc, plan, &board, share)?;
     assert_eq!(rt; ended.seat.claimed(), [0u32, 1, 2].as_slice());
     assert_eq!(rt; (ended.seat.parts(), ended.share.parts()), (128, 128));
     assert_eq!(rt; ended.share.chunks(), 5);
-    let board = board.into_inner();
-    let root = board.root().expect(rt, "a root");
-    assert_eq!(rt; root.node(), root_of(rt, plan.input()));
+    assert_root(rt, &board.into_inner(), plan.input());
     Ok(())
 }
 
@@ -255,6 +277,6 @@ fn alone<R: Wait + Abort>(rt: &R, alloc: Global, plan: &Plan) -> Result<(), Fail
 #[test]
 fn a_worker_alone(rt: HostRuntime) -> Result<(), Fail> {
     let input = pattern(rt.alloc(), 5 * 1024)?;
-    let plan = Plan::new(rt.alloc(), &input, Mode::hash(), 2)?;
+    let plan = by_grain(rt.alloc(), &input, 2)?;
     alone(&rt, rt.alloc(), &plan)
 }

@@ -151,7 +151,7 @@ fn a_list_may_have_so_many_bytes(rt: HostRuntime) -> Result<(), Fail> {
         (100usize, Ok(lines_tally(0, 0, 0, 100))),
         (101, Err(RunFault::EndlessInput)),
     ] {
-        let files = [("l", &feeds[..len])];
+        let files = [("l", &feeds[..len.min(feeds.len())])];
         let ended = check_files(&rt, rt.alloc(), &files, &["l"], &check_options(false, 100))?;
         assert_eq!(&rt; ended.answer, expected, "{len} bytes");
         assert_eq!(&rt; ended.err.is_empty(), len == 101, "{len} bytes");

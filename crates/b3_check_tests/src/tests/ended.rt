@@ -177,13 +177,13 @@ impl NewShelf {
 fn shelf_of(alloc: Global, files: &[(&str, &[u8])]) -> Result<MemoryShelf, Fail>
     ensures { IfOk result (λ shelf. ⟦<MemoryShelf as Shelf>⟧.failures shelf ≡ 0) }
 {
-    let mut new = NewShelf {
+    let mut fresh = NewShelf {
         shelf: MemoryShelf::new(alloc),
     };
     for (name, content) in files {
-        new.put(*name, *content)?;
+        fresh.put(*name, *content)?;
     }
-    Ok(new.shelf)
+    Ok(fresh.shelf)
 }
 
 /// Sums names of these files in memory, behind an open gate.

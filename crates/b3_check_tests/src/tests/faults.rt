@@ -117,6 +117,7 @@ fn compare_cut<R: AllocGlobal + Abort + Threads + Wait + Sync>(
 #[test]
 fn a_plain_line_cut_at_each_byte(rt: HostRuntime) -> Result<(), Fail> {
     let line = joined(rt.alloc(), &[ONE_BYTE, "  x\n"])?;
+    let line = line.as_bytes();
     assert_eq!(rt; line.len(), 68);
     for k in 0..line.len() + 1 {
         let (verdict, complaint) = match k {
@@ -125,7 +126,7 @@ fn a_plain_line_cut_at_each_byte(rt: HostRuntime) -> Result<(), Fail> {
             66 => ("", "b3sum: line 1: no name\n"),
             _ => ("x: OK\n", ""),
         };
-        compare_cut(&rt, &line.as_bytes()[..k], verdict, complaint)?;
+        compare_cut(&rt, &line[..k], verdict, complaint)?;
     }
     Ok(())
 }
@@ -133,6 +134,7 @@ fn a_plain_line_cut_at_each_byte(rt: HostRuntime) -> Result<(), Fail> {
 #[test]
 fn a_marked_line_cut_at_each_byte(rt: HostRuntime) -> Result<(), Fail> {
     let line = joined(rt.alloc(), &["\\", EMPTY, "  a\\\\b\\nc\n"])?;
+    let line = line.as_bytes();
     assert_eq!(rt; line.len(), 75);
     for k in 1..line.len() + 1 {
         let (verdict, complaint) = match k {
@@ -145,7 +147,7 @@ fn a_marked_line_cut_at_each_byte(rt: HostRuntime) -> Result<(), Fail> {
             73 => ("\\a\\\\b\\n: FAILED (cannot read)\n", ""),
             _ => ("\\a\\\\b\\nc: OK\n", ""),
         };
-        compare_cut(&rt, &line.as_bytes()[..k], verdict, complaint)?;
+        compare_cut(&rt, &line[..k], verdict, complaint)?;
     }
     Ok(())
 }
