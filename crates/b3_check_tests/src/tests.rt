@@ -10,6 +10,7 @@ mod in_order;
 mod lettered_files;
 mod meeting;
 mod memory;
+mod peeking;
 mod pieces;
 mod plain_lines;
 mod random;
