@@ -1,7 +1,6 @@
 //! Where a run reads and writes.
 
-ghost use Rattle.std.specs.Prelude.{◌≡◌, ◌-◌, ◌^◌, ◌<◌, ◌≤◌, IfSome, OnOk, vec_len};
-ghost use Rattle.b3_check.specs.Ahead.{HasOutput};
+ghost use Rattle.std.specs.Prelude.{◌≡◌, ◌-◌, ◌^◌, ◌<◌, ◌≤◌, OnOk, vec_len};
 ghost use Rattle.b3_check.specs.Owing.{SaysOwing, on_out};
 ghost use Rattle.b3_check.specs.Reading.{Answered, Asks, Hashes, key_answer};
 ghost use Rattle.b3_check.specs.Runs.{HasRoom};
@@ -20,7 +19,6 @@ use crate::shelf::{NoContent, Shelf};
 use crate::sink::Sink;
 use crate::writing::write_all;
 use b3_board::Gate;
-use b3_hash::Xof;
 use std::sync::Wait;
 use std::thread::Threads;
 
@@ -48,18 +46,14 @@ impl<'s, 'o, 'e, S, O, E> Drop for Desk<'s, 'o, 'e, S, O, E> {
 impl<'s, 'o, 'e, S: Shelf + Send + Sync, O: Sink, E: Sink> Desk<'s, 'o, 'e, S, O, E> {
     ghost use Rattle.b3_check.specs.Desks.{loans, scene_of};
 
-    /// Hashes the content of a name, of which the output may be known, and answers whether it can be read, or why
-    /// not.
-    #[tactic(auto, using(crate::proofs::AheadLemmas::digested_known))]
+    /// Hashes the content of a name, and answers whether it can be read, or why not.
     pub fn hash<R: Threads + Wait + Sync, G: Gate + Sync>(
         &mut self,
         crew: &Crew<'_, R, G>,
         digester: &mut Digester,
         name: &str,
-        known: Option<Xof>,
         limits: Limits,
     ) -> Result<Result<(), NoContent>, RunFault>
-        requires known { IfSome known (HasOutput (S.told self.old.shelf.now) digester.old.output.mode name.now) }
         requires room { HasRoom (scene_of S.Shelf O.Sink E.Sink self.old) 1 }
         requires some_turns { 0 < limits.turns }
         requires turns { limits.turns ≤ 2 ^ 40 }
@@ -69,10 +63,6 @@ impl<'s, 'o, 'e, S: Shelf + Send + Sync, O: Sink, E: Sink> Desk<'s, 'o, 'e, S, O
         ensures unsaid { self.new.out.now ≡ self.old.out.now }
         ensures loans { loans self.new ≡ loans self.old }
     {
-        if let Some(output) = known {
-            digester.take_digest(output);
-            return Ok(Ok(()));
-        }
         digester.hash_name(crew, self.shelf, name, limits)
     }
 

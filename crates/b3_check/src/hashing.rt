@@ -26,7 +26,7 @@ use std::sync::Wait;
 use std::thread::Threads;
 
 /// Which bytes of which output of a content are wanted.
-#[derive(Drop)]
+#[derive(Clone, Copy)]
 pub struct Output {
     /// The mode of the hash.
     pub mode: Mode,
@@ -34,6 +34,18 @@ pub struct Output {
     pub seek: u64,
     /// How many bytes of it are wanted.
     pub length: u32,
+}
+
+impl Output {
+    /// Fills a digest with the bytes that are wanted of the output of a content (BLAKE3 (2020), 2.6).
+    pub fn fill(&self, mut reader: Xof, digest: &mut [u8])
+        requires in_output { self.now.seek + self.now.length ≤ 2 ^ 64 - 1 }
+        requires len { length digest.old ≡ self.now.length }
+        ensures { digest.new ≡ output_bytes reader.node self.now.seek self.now.length }
+    {
+        reader.seek(self.seek);
+        reader.fill(digest).unwrap();
+    }
 }
 
 /// Hashes names, one after the other. A long file is hashed by pieces, all others window by window, as they are
@@ -70,11 +82,12 @@ impl Digester {
         })
     }
 
-    /// The mode of the hash.
-    pub fn mode(&self) -> Mode
-        ensures { result ≡ self.now.output.mode }
+    /// Which output is wanted of each name.
+    pub fn output(&self) -> Output
+        ensures output { result ≡ self.now.output }
+        ensures in_output { result.seek + result.length ≤ 2 ^ 64 - 1 }
     {
-        self.output.mode
+        self.output
     }
 
     /// The digest of the name that was hashed last.
@@ -225,12 +238,11 @@ impl Digester {
         Ok(hasher.finish_with(last))
     }
 
-    /// Takes the digest from the output of a content.
-    pub fn take_digest(&mut self, mut output: Xof)
+    // Takes the digest from the output of a content.
+    fn take_digest(&mut self, output: Xof)
         ensures digest { self.new.digest.items ≡ output_bytes output.node self.old.output.seek self.old.output.length }
         ensures output { self.new.output ≡ self.old.output }
     {
-        output.seek(self.output.seek);
-        output.fill(self.digest.as_mut_slice()).unwrap();
+        self.output.fill(output, self.digest.as_mut_slice());
     }
 }

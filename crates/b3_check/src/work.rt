@@ -1,7 +1,7 @@
 //! The loop that both engines go through.
 
 ghost use Rattle.std.specs.Prelude.{◌≡◌, ℕ, ◌+◌, ◌-◌, ◌^◌, ◌<◌, ◌≤◌, ◌∷◌, [], All, true, length, IfOk, IfSome, MatchOption, OnOk};
-ghost use Rattle.b3_check.specs.Ahead.{AreKnown, IsKnown, HasOutput, tasks_then};
+ghost use Rattle.b3_check.specs.Ahead.{AreKnown, IsKnown, HasReport, tasks_then};
 ghost use Rattle.b3_check.specs.Desks.{loans, scene_of};
 ghost use Rattle.b3_check.specs.Owing.{RunsOwing};
 ghost use Rattle.b3_check.specs.Runs.{HasRoom, Runs};
@@ -20,7 +20,6 @@ use crate::shelf::Shelf;
 use crate::sink::Sink;
 use crate::tally::Tally;
 use b3_board::Gate;
-use b3_hash::Xof;
 use std::alloc::{AllocError, Global};
 use std::sync::Wait;
 use std::thread::Threads;
@@ -87,45 +86,45 @@ impl<'c, R: Threads + Wait + Sync, G: Gate + Sync> Worker<'c, R, G> {
         let mut tally = Tally::none();
         let mut lines = Vec::new(self.alloc);
         let mut ahead = Ahead::new(self.alloc, self.limits);
-        while let Some((item, output)) = self.next(desk, &mut ahead, agenda)? {
+        while let Some((item, known)) = self.next(desk, &mut ahead, agenda)? {
             let is_more_soon = ahead.knows_next() && lines.len() < MOST_LINES;
-            let one = self.run_item(desk, item, output, &mut lines, is_more_soon)?;
+            let one = self.run_item(desk, item, known, &mut lines, is_more_soon)?;
             tally.add(&one);
         }
         desk.write_lines(lines.as_slice())?;
         Ok(tally)
     }
 
-    // The next item, with its output if that was found.
+    // The next item, with what is to be said of it if that was found.
     fn next<'p, S: Shelf + Send + Sync, O: Sink, E: Sink, P: Agenda<'p>>(
         &mut self,
         desk: &Desk<'_, '_, '_, S, O, E>,
         ahead: &mut Ahead<'p>,
         agenda: &mut P,
-    ) -> Result<Option<(Item<'p>, Option<Xof>)>, AllocError>
+    ) -> Result<Option<(Item<'p>, Option<Said>)>, AllocError>
         requires known { AreKnown (S.told desk.now.shelf.now)
-            self.old.digester.output.mode ahead.old.items.items ahead.old.outputs.items }
+            self.old.digester.output ahead.old.items.items ahead.old.known.items }
+        requires fit { All (IsFitItem self.old.digester.output.length) ahead.old.items.items }
+        requires fits { P.fits agenda.old self.old.digester.output.length ≡ true }
         ensures next { IfOk result (λ next. MatchOption next (tasks_then ahead.old.items.items (P.left agenda.old) ≡ [])
             (λ done. tasks_then ahead.old.items.items (P.left agenda.old)
             ≡ task_of done.0 ∷ tasks_then ahead.new.items.items (P.left agenda.new))) }
         ensures known { OnOk result (AreKnown (S.told desk.now.shelf.now)
-            self.old.digester.output.mode ahead.new.items.items ahead.new.outputs.items) }
-        ensures output_of { IfOk result (λ next. IfSome next (λ done. IsKnown (S.told desk.now.shelf.now)
-            self.old.digester.output.mode (task_of done.0) done.1)) }
-        ensures fit { IfOk result (λ next. IfSome next (λ done. (len : ℕ)
-            → All (IsFitItem len) ahead.old.items.items → P.fits agenda.old len ≡ true → IsFitItem len done.0)) }
-        ensures all_fit { OnOk result ((len : ℕ) → All (IsFitItem len) ahead.old.items.items
-            → P.fits agenda.old len ≡ true → All (IsFitItem len) ahead.new.items.items) }
-        ensures still_fits { OnOk result ((len : ℕ) → P.fits agenda.new len ≡ P.fits agenda.old len) }
+            self.old.digester.output ahead.new.items.items ahead.new.known.items) }
+        ensures said { IfOk result (λ next. IfSome next (λ done. IsKnown (S.told desk.now.shelf.now)
+            self.old.digester.output (task_of done.0) done.1)) }
+        ensures fit { IfOk result (λ next. IfSome next (λ done. IsFitItem self.old.digester.output.length done.0)) }
+        ensures all_fit { OnOk result (All (IsFitItem self.old.digester.output.length) ahead.new.items.items) }
+        ensures still_fits { OnOk result (P.fits agenda.new self.old.digester.output.length ≡ true) }
         ensures limits { self.new.limits ≡ self.old.limits }
         ensures output { self.new.digester.output ≡ self.old.digester.output }
     {
-        let mode = self.digester.mode();
+        let output = self.digester.output();
         ahead.next(
             &self.crew,
             self.hands.as_mut_slice(),
             &*desk.shelf,
-            &mode,
+            &output,
             agenda,
         )
     }
@@ -135,12 +134,12 @@ impl<'c, R: Threads + Wait + Sync, G: Gate + Sync> Worker<'c, R, G> {
         &mut self,
         desk: &mut Desk<'_, '_, '_, S, O, E>,
         item: Item<'_>,
-        known: Option<Xof>,
+        known: Option<Said>,
         lines: &mut Vec<u8>,
         is_more_soon: bool,
     ) -> Result<Tally, RunFault>
         requires fit { IsFitItem self.old.digester.output.length item }
-        requires known { IsKnown (S.told desk.old.shelf.now) self.old.digester.output.mode (task_of item) known }
+        requires known { IsKnown (S.told desk.old.shelf.now) self.old.digester.output (task_of item) known }
         requires room { HasRoom (scene_of S.Shelf O.Sink E.Sink desk.old) 1 }
         ensures run { RunsOwing self.old.limits (task_script self.old.digester.output (task_of item.entry))
             (scene_of S.Shelf O.Sink E.Sink desk.old) (scene_of S.Shelf O.Sink E.Sink desk.new)
@@ -164,16 +163,17 @@ impl<'c, R: Threads + Wait + Sync, G: Gate + Sync> Worker<'c, R, G> {
         }
     }
 
-    // Asks for a name, and answers what is to be said of it.
+    // What is to be said of a name. Where that is not known, the name is asked for.
+    #[tactic(auto, using(crate::proofs::AheadLemmas::gave_known))]
     fn find<S: Shelf + Send + Sync, O: Sink, E: Sink>(
         &mut self,
         desk: &mut Desk<'_, '_, '_, S, O, E>,
         subject: &Subject<'_>,
-        known: Option<Xof>,
+        known: Option<Said>,
     ) -> Result<Said, RunFault>
         requires fit { IsFit self.old.digester.output.length subject.now }
-        requires known { IfSome known (HasOutput (S.told desk.old.shelf.now)
-            self.old.digester.output.mode (name_asked subject.now)) }
+        requires known { IfSome known (HasReport (S.told desk.old.shelf.now) self.old.digester.output
+            (name_asked subject.now) (subject_report subject.now)) }
         requires room { HasRoom (scene_of S.Shelf O.Sink E.Sink desk.old) 1 }
         ensures gives { Gives self.old.limits self.old.digester.output (name_asked subject.now)
             (subject_report subject.now)
@@ -183,13 +183,10 @@ impl<'c, R: Threads + Wait + Sync, G: Gate + Sync> Worker<'c, R, G> {
         ensures limits { self.new.limits ≡ self.old.limits }
         ensures output { self.new.digester.output ≡ self.old.digester.output }
     {
-        let whole = desk.hash(
-            &self.crew,
-            &mut self.digester,
-            subject.name(),
-            known,
-            self.limits,
-        )?;
+        if let Some(said) = known {
+            return Ok(said);
+        }
+        let whole = desk.hash(&self.crew, &mut self.digester, subject.name(), self.limits)?;
         let digest = match whole {
             Ok(()) => Ok(self.digester.digest()),
             Err(why) => Err(why),

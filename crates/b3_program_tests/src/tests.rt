@@ -292,7 +292,7 @@ fn a_folder_is_no_file(rt: HostRuntime) {
 
 // What should be a folder on its way is a file; and a name that is too long is no missing one.
 #[test]
-fn a_name_behind_a_file_is_missing(rt: HostRuntime) -> Result<(), AllocError> {
+fn a_name_below_a_file_is_missing(rt: HostRuntime) -> Result<(), AllocError> {
     let mut shelf = FileShelf::new(&rt, b"".as_slice());
     assert_eq!(rt; shelf.begin("/proc/self/exe/"), Err(NoContent::Missing));
     assert_eq!(rt; shelf.begin("/proc/self/exe/x"), Err(NoContent::Missing));

@@ -14,14 +14,15 @@ use std::sync::atomic::{AtomicU64, Ordering};
 use std::test::Fail;
 use std::thread::Threads;
 
-/// Empty files, of which all but `slow` are soon read, and a list under `l`. What is begun notes how many bytes were
-/// written before it.
+/// Empty files, of which all but `slow` are soon read, and a list under `l`. They note how many bytes were written
+/// before `slow` was begun, and before `late` was peeked.
 #[derive(Drop)]
 struct EmptyFiles<'a> {
     list: &'a [u8],
     rest: &'a [u8],
     written: &'a AtomicU64,
     before_slow: u64,
+    before_late: AtomicU64,
 }
 
 impl<'a> EmptyFiles<'a> {
@@ -31,6 +32,7 @@ impl<'a> EmptyFiles<'a> {
             rest: &[],
             written,
             before_slow: 0,
+            before_late: AtomicU64::new(0),
         }
     }
 }
@@ -62,6 +64,10 @@ impl Shelf for EmptyFiles<'_> {
     }
 
     fn peek(&self, name: &str, _longest: u64, _room: &mut [u8], _hasher: &mut Hasher) -> bool {
+        if name == "late" {
+            let written = self.written.load(Ordering::SeqCst);
+            self.before_late.store(written, Ordering::SeqCst);
+        }
         name != "slow"
     }
 }
@@ -215,6 +221,33 @@ fn lines_before_a_slow_name_are_written(rt: HostRuntime) -> Result<(), Fail> {
     assert_eq!(rt; out.bytes.as_slice(), all.as_bytes());
     assert_eq!(rt; shelf.before_slow, three.len() as u64);
     assert_eq!(rt; out.writes, 2);
+    Ok(())
+}
+
+// Lines of two mebibytes end a round early: the eleventh of twenty names is peeked only after some of them are written.
+#[test]
+fn long_lines_end_a_round(rt: HostRuntime) -> Result<(), Fail> {
+    let alloc = rt.alloc();
+    let mut names = names(alloc, 10)?;
+    names.push(String::from_str(alloc, "late")?)?;
+    for _ in 0..9 {
+        names.push(String::from_str(alloc, "a")?)?;
+    }
+    for (length, is_round_over) in [(32, false), (1 << 20, true)] {
+        let written = AtomicU64::new(0);
+        let mut shelf = EmptyFiles::new(b"", &written);
+        let mut out = PatientSink::new(alloc, true, &written);
+        let mut err = PatientSink::new(alloc, true, &written);
+        let mut asked = options(2, 0);
+        asked.workers = 2;
+        asked.length = length;
+        let answer = sum_into(
+            &rt, alloc, &mut shelf, &names, &mut out, &mut err, &asked, &OpenGate,
+        );
+        assert_eq!(rt; answer, Ok(tally(20, 0, 0)));
+        let before = shelf.before_late.load(Ordering::SeqCst);
+        assert_eq!(rt; before > 0, is_round_over);
+    }
     Ok(())
 }
 

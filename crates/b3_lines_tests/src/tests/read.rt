@@ -110,7 +110,7 @@ fn assert_spelled(
 }
 
 #[test]
-fn each_byte_behind_a_backslash(rt: HostRuntime) -> Result<(), Fail> {
+fn each_byte_after_a_backslash(rt: HostRuntime) -> Result<(), Fail> {
     for byte in 0..=255u8 {
         let want = match byte {
             b'\\' => Ok("a\\b"),
@@ -210,7 +210,7 @@ fn tagged_lines_that_are_cut_off(rt: HostRuntime) {
 }
 
 #[test]
-fn other_tags_and_bytes_behind_the_digits_are_no_digits(rt: HostRuntime) -> Result<(), Fail> {
+fn other_tags_and_bytes_after_the_digits_are_no_digits(rt: HostRuntime) -> Result<(), Fail> {
     let alloc = rt.alloc();
     let rows: [(&[u8], &[u8]); 6] = [
         (b"blake3 (x) = ", b""),

@@ -10,9 +10,9 @@ use Rattle.b3_check.proofs.work.Worker.run.Goals as goal
 pub loop-ahead-init : goal.loop-ahead-init
 loop-ahead-init g c = record {
   so_far = rw (c.new-ahead.ensures.items, c.new-lines.ensures.items) (so_far_none c.none-tally.ensures);
-  known = rw c.new-ahead.ensures.outputs (are_known_none _ _ _);
+  known = rw c.new-ahead.ensures.known (are_known_none _ _ _);
   fit = rw c.new-ahead.ensures.items (all_none (IsFitItem c.args.self.now.digester.output.length));
-  fits = λ _. refl;
+  fits = c.requires.fits;
   loans = refl;
   limits = refl;
   output = refl;
@@ -22,7 +22,7 @@ pub next-requires : goal.next-requires
 next-requires g c = λ _.
     let bounds = c.type_bounds in
     let held = c.loop-ahead.invariant in
-    (bounds.send-S, (bounds.sync-R, (bounds.sync-G, (bounds.sync-S, ((refl, (refl, tt)), rw held.output held.known)))))
+    (bounds.send-S, (bounds.sync-R, (bounds.sync-G, (bounds.sync-S, ((refl, (refl, tt)), rw held.output (held.known, (held.fit, held.fits)))))))
 
 pub returns-in_err-item-clause-run : goal.returns-in_err-item-clause-run
 returns-in_err-item-clause-run g c =
@@ -44,17 +44,16 @@ loop-ahead-preserved g c =
     let held = c.loop-ahead.invariant in
     let item = c.in_ok-item.ensures in
     let done = c.in_ok-one.ensures in
-    let len = c.args.self.now.digester.output.length in
     let next = rw c.in-Some.is at item.next in
     let so_far = rw next at held.so_far in
     let ran = rw (item.output, held.output) at done.run in
     let known = rw held.output at item.known in
     record {
       so_far = rw c.add.ensures (so_far_more (task_of c.in-Some.item) so_far ran done.one done.shelf_count);
-      known = subst (λ (t : Option Contents). AreKnown t c.args.self.now.digester.output.mode
-          c.next.new.ahead.items.items c.next.new.ahead.outputs.items) (sym done.run.went.went.heard.told) known;
-      fit = item.all_fit len held.fit (held.fits len ∙ c.requires.fits);
-      fits = λ n. item.still_fits n ∙ held.fits n;
+      known = subst (λ (t : Option Contents). AreKnown t c.args.self.now.digester.output
+          c.next.new.ahead.items.items c.next.new.ahead.known.items) (sym done.run.went.went.heard.told) known;
+      fit = rw held.output at item.all_fit;
+      fits = rw held.output at item.still_fits;
       loans = done.loans ∙ held.loans;
       limits = done.limits ∙ item.limits ∙ held.limits;
       output = done.output ∙ item.output ∙ held.output;

@@ -1,4 +1,4 @@
-use Rattle.std.proofs.Common.{◌≡◌, ℕ, All, length}
+use Rattle.std.proofs.Common.{◌≡◌, All, length, true}
 use Rattle.b3_check.specs.Ahead.{AreKnown, tasks_then}
 use Rattle.b3_check.specs.Desks.{loans, scene_of}
 use Rattle.b3_check.specs.Tasks.{IsFitItem}
@@ -14,9 +14,9 @@ invariant-loop-ahead g l =
     record {
       so_far : SoFar l.fn.self.digester.output (agenda.left l.fn.agenda) left (seen l.fn.desk) (seen l.desk)
           l.lines.items l.tally;
-      known : AreKnown (seen l.desk).told l.fn.self.digester.output.mode l.ahead.items.items l.ahead.outputs.items;
+      known : AreKnown (seen l.desk).told l.fn.self.digester.output l.ahead.items.items l.ahead.known.items;
       fit : All (IsFitItem l.fn.self.digester.output.length) l.ahead.items.items;
-      fits : (len : ℕ) → agenda.fits l.agenda len ≡ agenda.fits l.fn.agenda len;
+      fits : agenda.fits l.agenda l.fn.self.digester.output.length ≡ true;
       loans : loans l.desk ≡ loans l.fn.desk;
       limits : l.self.limits ≡ l.fn.self.limits;
       output : l.self.digester.output ≡ l.fn.self.digester.output;
