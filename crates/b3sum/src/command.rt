@@ -22,8 +22,10 @@ are not taken.";
 
 /// The program's options and files.
 pub fn command<'a>(alloc: Global) -> Result<Command<'a>, AllocError> {
+    // Of a row of files `clap` makes one use of the argument, and not one for each.
     let files = Arg::new(alloc, "FILE")
         .action(ArgAction::Append)
+        .num_args(0..)
         .help("Files to hash, or with --check lists to check");
     let command = Command::new(alloc, "b3sum")
         .version("0.1.0")
