@@ -6,20 +6,18 @@ use Rattle.std.specs.Prelude.{slice_index_or, All, IfSome}
 use Rattle.std.proofs.lemmas.List.{get_or-set_same, get_or-set_other, get_or_default, length-set, map-append}
 use Rattle.std.proofs.lemmas.List.Elements.{All-append}
 use Rattle.std.proofs.lemmas.Bool.Decides.{eqb_tells}
-use Rattle.b3_core.specs.Output.{output_bytes}
-use Rattle.b3_hash.specs.Readers.{Reader}
 use Rattle.b3_check.specs.declared.ahead.Peeked.{Peeked}
 use Rattle.b3_check.specs.declared.hashing.Output.{Output}
 use Rattle.b3_check.specs.declared.items.Item.{Item}
 use Rattle.b3_check.specs.declared.items.Item.TheVariants.{Ask as AskItem}
 use Rattle.b3_check.specs.declared.items.Subject.{Subject}
 use Rattle.b3_check.specs.declared.said.Said.{Said}
-use Rattle.b3_check.specs.Ahead.{AreKnown, HasOutput, HasReport, IsFound, IsKnown, tasks_then}
+use Rattle.b3_check.specs.Ahead.{AreKnown, HasReport, IsFound, IsKnown, tasks_then}
 use Rattle.b3_check.specs.Contents.{Contents, HasContent}
 use Rattle.b3_check.specs.Runs.{Scene}
 use Rattle.b3_check.specs.Scripts.{AgreesWith, Given, Report, answer_of}
 use Rattle.b3_check.specs.Scripts.Kind.{Hashed}
-use Rattle.b3_check.specs.Tasks.{Gave, Task, name_asked, report_of, subject_report, task_of}
+use Rattle.b3_check.specs.Tasks.{Gave, Task, name_asked, subject_report, task_of}
 use Rattle.b3_check.specs.Tasks.Task.{Tell, Find}
 use Rattle.b3_check.proofs.RunLemmas.{went_nowhere}
 
@@ -94,19 +92,6 @@ found_for {told} {output} {item} {said} items place subject at asks is = λ d lt
 pub if_some_weaker : {T : Type 0} {P Q : T → Type 0} (it : Option T) → ((x : T) → P x → Q x) → IfSome it P → IfSome it Q
 if_some_weaker {T} {P} {Q} None weaker p = tt
 if_some_weaker {T} {P} {Q} (Some x) weaker p = weaker x p
-
--- ---- what is said of a name whose output was found
-
-pub report_found : {told : Option Contents} {name : List ℕ} {given : Reader} {digest : List ℕ} {said : Said}
-    (output : Output) (says : Given (List ℕ) → Report)
-    → HasOutput told output.mode name given → digest ≡ output_bytes given.node output.seek output.length
-    → report_of said ≡ says (Ok digest) → HasReport told output name says said
-report_found {told} {name} {given} {digest} {said} output says known filled is = record {
-  content = known.content;
-  has = known.has;
-  is = is ∙ ap (λ bytes. says (Ok bytes))
-      (filled ∙ ap (λ (reader : Reader). output_bytes reader.node output.seek output.length) known.is);
-}
 
 -- a name is answered of which is known what is to be said
 agrees_known : (told : Option Contents) (sure : Bool) (name content : List ℕ) → HasContent told name content

@@ -59,8 +59,8 @@ pub fn room(alloc: Global, readers: usize) -> Result<Vec<u8>, AllocError>
     Vec::with_capacity(alloc, readers * PIECE_LEN)
 }
 
-/// The output of what is left of the file that is begun. Nothing where it is to be read in order: it is not long, it
-/// may take more reads than `limits` allow, it has not the length that it tells, or some of it could not be read.
+/// The output of what is left of the file that is begun. Nothing where it is to be read in order: no two workers read
+/// for themselves, it is not long, it may take more reads than `limits` allow, it has not the length that it tells, or some of it could not be read.
 pub fn hash_pieces<R: Threads + Wait + Sync, G: Gate + Sync, S: Shelf + Send + Sync>(
     crew: &Crew<'_, R, G>,
     shelf: &S,
@@ -71,7 +71,7 @@ pub fn hash_pieces<R: Threads + Wait + Sync, G: Gate + Sync, S: Shelf + Send + S
     ensures { IfSome result (λ output. IsOutputOf (S.told shelf.now) (S.left shelf.now) mode.now output) }
 {
     let len = shelf.len_hint();
-    if crew.readers() == 0 || !is_long(len, limits) || !has_length(shelf, len) {
+    if crew.readers() < 2 || !is_long(len, limits) || !has_length(shelf, len) {
         return None;
     }
     let pieces = len.div_ceil(PIECE_LEN as u64);
