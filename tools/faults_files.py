@@ -108,6 +108,8 @@ def long_files(faults):
                 faults.row(name, [*words, "long"], f"{expected}  long\n")
                 faults.row(f"{name}, beside another", [*words, "long", "e"], f"{expected}  long\n{Z0}  e\n")
                 faults.row(f"{name}, by a pipe", words, f"{expected}  -\n", input=content[:length])
+                with open("long", "rb") as given:
+                    faults.row(f"{name}, as input", words, f"{expected}  -\n", stdin=given)
 
 
 def number_of_threads(faults):
@@ -145,6 +147,11 @@ def growing_files(faults):
         with meanwhile(grow):
             faults.row(f"a file that grows, turn {turn}, named {times} times", ["growing"] * times,
                        lines_of_one(digests, "growing", times))
+    for turn in range(1, 21):
+        Path("growing").write_bytes(PATTERN[:begins])
+        with meanwhile(grow), open("growing", "rb") as given:
+            time.sleep(turn * 0.0002)
+            faults.row(f"input that is a file that grows, turn {turn}", [], lines_of_one(digests, "-", 1), stdin=given)
 
 
 def changing_files(faults):
@@ -177,6 +184,10 @@ def cut_files(faults, content, tree):
         with meanwhile(lambda _: (time.sleep(turn * pause), os.truncate("cut", left))):
             faults.row(f"a file that is cut, turn {turn}, named {times} times", ["cut"] * times,
                        lines_of_one(digests, "cut", times))
+    for turn in range(1, 21):
+        Path("cut").write_bytes(content)
+        with meanwhile(lambda _: (time.sleep(turn * 0.0002), os.truncate("cut", left))), open("cut", "rb") as given:
+            faults.row(f"input that is a file that is cut, turn {turn}", [], lines_of_one(digests, "-", 1), stdin=given)
 
 
 def removed_files(faults, content, expected):

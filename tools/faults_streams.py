@@ -69,7 +69,8 @@ def input_in_the_middle(faults):
     for length in (1, 1025, len(PATTERN)):
         among = f"{Z0}  e\n{digest(PATTERN[:length])}  -\n{Z1}  z\n"
         faults.row(f"{length} bytes by a pipe among files", ["e", "-", "z"], among, input=PATTERN[:length])
-    for length, place in ((1025, 1), (1025, 1025), (len(PATTERN), 1), (len(PATTERN), 1 << 18)):
+    places = (1, (1 << 18) - 1, 1 << 18, (1 << 18) + 1, len(PATTERN))
+    for length, place in ((1025, 1), (1025, 1025), *((len(PATTERN), place) for place in places)):
         Path("placed").write_bytes(PATTERN[:length])
         line = f"{digest(PATTERN[place:length])}  -\n"
         for words, out in (([], line), (["e", "-", "z"], f"{Z0}  e\n{line}{Z1}  z\n")):
@@ -78,6 +79,12 @@ def input_in_the_middle(faults):
                 given.seek(place)
                 faults.row(name, words, out, stdin=given)
                 faults.compare(f"{name}: where it is left", (None, None, given.tell()), ("", "", length))
+    with open("placed", "rb", buffering=0) as given:
+        os.remove("placed")
+        faults.row("input that is a file that was removed", [], f"{digest(PATTERN)}  -\n", stdin=given)
+    Path("placed").write_bytes(PATTERN)
+    with open("placed", "ab", buffering=0) as given:
+        faults.row("input that is a file that is only written", [], err="b3sum: -: cannot read\n", status=1, stdin=given)
     Path("placed").write_text(f"x\n{Z0}  e\n")
     with open("placed", "rb", buffering=0) as given:
         given.seek(2)

@@ -4,8 +4,9 @@ ghost use Rattle.std.specs.IoError.{error_kind};
 ghost use Rattle.b3_check.specs.Contents.{IsSeen};
 ghost use Rattle.b3_check.specs.declared.shelf.NoContent.TheVariants.{Missing};
 ghost use Rattle.b3_hash.specs.Hashers.{StandsFor, mode_of};
-ghost use Rattle.b3_program.specs.Files.{IsOfMissing, is_open};
+ghost use Rattle.b3_program.specs.Files.{IsOfMissing, is_input, is_open};
 
+use crate::input::{InputFile, InputPaths, open_input};
 use crate::retrying::{fill_at, read_retrying};
 use b3_check::{CannotRead, NoContent, Shelf};
 use b3_hash::Hasher;
@@ -22,6 +23,8 @@ const INPUT_NAME: &str = "-";
 pub enum Source<T> {
     Nothing,
     Input,
+    // the input, which is a plain file
+    Placed(InputFile<T>),
     Opened(T),
 }
 
@@ -30,6 +33,7 @@ pub enum Source<T> {
 pub struct FileShelf<'a, F: Files, I> {
     files: &'a F,
     input: I,
+    input_paths: Option<InputPaths<'a>>,
     is_input_taken: bool,
     source: Source<F::File>,
     // how many bytes were read of it
@@ -48,10 +52,37 @@ impl<'a, F: Files, I: Read> FileShelf<'a, F, I> {
         FileShelf {
             files,
             input,
+            input_paths: None,
             is_input_taken: false,
             source: Source::Nothing,
             given: 0,
             failures: 0,
+        }
+    }
+
+    /// The same shelf, whose input is what the system shows at these paths: a plain file is read at places too.
+    pub fn shown_at(self, paths: InputPaths<'a>) -> FileShelf<'a, F, I>
+        ensures input { result.input ≡ self.entry.input }
+        ensures free { result.is_input_taken ≡ self.entry.is_input_taken }
+        ensures source { result.source ≡ self.entry.source }
+        ensures failures { result.failures ≡ self.entry.failures }
+    {
+        FileShelf {
+            input_paths: Some(paths),
+            ..self
+        }
+    }
+
+    // The input, as a plain file where it is shown to be one.
+    fn input_source(&self) -> Source<F::File>
+        ensures { is_open result ≡ true }
+    {
+        let Some(paths) = &self.input_paths else {
+            return Source::Input;
+        };
+        match open_input(self.files, paths) {
+            Some(file) => Source::Placed(file),
+            None => Source::Input,
         }
     }
 
@@ -103,7 +134,7 @@ fn hash_file<F: FileExt>(file: &F, longest: u64, room: &mut [u8], hasher: &mut H
     false
 }
 
-impl<F: Files, I: Read> Shelf for FileShelf<'_, F, I>
+impl<F: Files, I: Read + Copy> Shelf for FileShelf<'_, F, I>
 where
     F::File: FileExt,
 {
@@ -149,7 +180,7 @@ where
             return Err(NoContent::CannotRead);
         }
         self.is_input_taken = true;
-        self.source = Source::Input;
+        self.source = self.input_source();
         Ok(())
     }
 
@@ -162,15 +193,16 @@ where
         ensures not_begun { is_open self.old.source ≡ false → IfOk result (λ n. n ≡ 0) }
         ensures input_taken { self.new.is_input_taken ≡ self.old.is_input_taken }
 
-        // Where the input is begun it gives what the input gives; a file leaves the input as it is.
+        // Where the input is begun it gives what the input gives; another file leaves the input as it is.
         ensures bytes { self.old.source ≡ Input → IfOk result (λ n.
             Consumes (I.remaining self.old.input) (I.remaining self.new.input) (take n room.new)) }
         ensures end { self.old.source ≡ Input → IfOk result (λ n. n ≡ 0 → IsAtEnd (I.remaining self.new.input)) }
-        ensures unread { self.old.source ≢ Input → self.new.input ≡ self.old.input }
+        ensures unread { is_input self.old.source ≡ false → self.new.input ≡ self.old.input }
     {
         let given = match &mut self.source {
             Source::Nothing => return Ok(0),
             Source::Input => read_retrying(&mut self.input, room),
+            Source::Placed(file) => file.read(&mut self.input, self.given, room),
             Source::Opened(file) => read_retrying(file, room),
         };
         match given {
@@ -202,19 +234,26 @@ where
 
     // All who read hold the one file that is open: another file under its name changes nothing.
     fn read_at(&self, place: u64, room: &mut [u8]) -> Option<usize> {
-        let Source::Opened(file) = &self.source else {
-            return None;
-        };
-        fill_at(file, self.given.saturating_add(place), room)
+        let place = self.given.saturating_add(place);
+        match &self.source {
+            Source::Opened(file) => fill_at(file, place, room),
+            Source::Placed(file) => {
+                let mut input = self.input;
+                file.fill_at(&mut input, place, room)
+            }
+            Source::Nothing | Source::Input => None,
+        }
     }
 
     fn len_hint(&self) -> u64 {
-        let Source::Opened(file) = &self.source else {
-            return 0;
+        let len = match &self.source {
+            Source::Opened(file) => match file.metadata() {
+                Ok(metadata) if metadata.is_file() => metadata.len(),
+                _ => 0,
+            },
+            Source::Placed(file) => file.len(),
+            Source::Nothing | Source::Input => 0,
         };
-        match file.metadata() {
-            Ok(metadata) if metadata.is_file() => metadata.len().saturating_sub(self.given),
-            _ => 0,
-        }
+        len.saturating_sub(self.given)
     }
 }

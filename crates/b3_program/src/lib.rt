@@ -3,6 +3,7 @@
 #![tactic(auto)]
 
 mod files;
+mod input;
 mod outputs;
 mod retrying;
 mod run;
@@ -13,6 +14,7 @@ mod usage;
 mod words;
 
 pub use files::FileShelf;
+pub use input::{INPUT_PATHS, InputPaths};
 pub use outputs::OutputSink;
 pub use run::run_words;
 pub use stop::Stop;

@@ -1,6 +1,6 @@
 // Reads and writes that are made again where a signal interrupts them.
 
-ghost use Rattle.std.specs.Prelude.{◌≡◌, ◌≤◌, length, IfSome};
+ghost use Rattle.std.specs.Prelude.{◌≡◌, ◌≤◌, length, IfOk, IfSome};
 ghost use Rattle.std.specs.Io.{ReadsAtMost, WritesAtMost};
 ghost use Rattle.std.specs.Io.KnownBytes.{ReadConsumes, WriteAppends};
 
@@ -25,8 +25,25 @@ pub fn read_retrying<R: Read>(reader: &mut R, room: &mut [u8]) -> io::Result<usi
     reader.read(room)
 }
 
-// Reads at a place, as `FileExt::read_at` does.
-fn read_at_retrying<F: FileExt>(file: &F, place: u64, room: &mut [u8]) -> io::Result<usize>
+/// Fills the room with a reader's next bytes, and answers how many there are: fewer than the room takes only where it
+/// ends.
+pub fn fill<R: Read>(reader: &mut R, room: &mut [u8]) -> io::Result<usize>
+    ensures len { length room.new ≡ length room.old }
+    ensures within { IfOk result (λ n. n ≤ length room.old) }
+{
+    let mut filled = 0;
+    while filled < room.len() {
+        let count = read_retrying(reader, &mut room[filled..])?;
+        if count == 0 {
+            return Ok(filled);
+        }
+        filled += count;
+    }
+    Ok(filled)
+}
+
+/// Reads at a place, as `FileExt::read_at` does.
+pub fn read_at_retrying<F: FileExt>(file: &F, place: u64, room: &mut [u8]) -> io::Result<usize>
     ensures bound { ReadsAtMost result room.new }
     ensures room { length room.new ≡ length room.old }
 {

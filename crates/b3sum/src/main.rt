@@ -11,7 +11,7 @@ mod tests;
 mod words;
 
 use b3_board::OpenGate;
-use b3_program::{FileShelf, OutputSink};
+use b3_program::{FileShelf, INPUT_PATHS, OutputSink};
 use call::run_call;
 use std::io::IsTerminal;
 use std::process::ExitCode;
@@ -19,7 +19,7 @@ use std::rt::Env;
 use std::{env, io};
 
 fn main(rt: HostRuntime) -> ExitCode {
-    let mut shelf = FileShelf::new(&rt, rt.stdin());
+    let mut shelf = FileShelf::new(&rt, rt.stdin()).shown_at(INPUT_PATHS);
     // Over a terminal each line is seen as soon as it is due.
     let mut out = OutputSink::new(rt.stdout()).gathering(!rt.stdout().is_terminal());
     let mut err = OutputSink::new(rt.stderr());
