@@ -1,6 +1,6 @@
 # `make` proves the crates, builds the program for this machine's processor and leaves it as ./b3sum.
 # `make install` puts it and its manual page below PREFIX, which is /usr/local; `make uninstall` takes them away.
-# `make check` is for who works: it proves what changed, over what earlier runs kept, and runs the tests.
+# `make check` is for who works: it proves what changed, over what earlier runs kept, and runs its tests.
 # `make test` is the gate: every proof from nothing, the must-fail edits, the tests and the stored run.
 # Beside the gate, over the built program:
 # `make compare` runs it beside the installed b3sum, on the same inputs, trees and lists.
@@ -41,7 +41,7 @@ uninstall:
 	rm -f $(DESTDIR)$(PREFIX)/bin/b3sum $(DESTDIR)$(PREFIX)/share/man/man1/b3sum.1
 
 check:
-	rt all test
+	tools/check
 
 test:
 	RT_JOBS=$${RT_JOBS:-$(TASKS)} rt ci
