@@ -4,26 +4,26 @@
 //! do what they ask for.
 #![tactic(auto)]
 
+mod arguments;
 mod call;
 mod command;
 #[cfg(test)]
 mod tests;
 mod words;
 
+use arguments::arguments;
 use b3_board::OpenGate;
 use b3_program::{FileShelf, INPUT_PATHS, OutputSink};
 use call::run_call;
 use std::io::IsTerminal;
 use std::process::ExitCode;
-use std::rt::Env;
-use std::{env, io};
 
 fn main(rt: HostRuntime) -> ExitCode {
     let mut shelf = FileShelf::new(&rt, rt.stdin()).shown_at(INPUT_PATHS);
     // Over a terminal each line is seen as soon as it is due.
     let mut out = OutputSink::new(rt.stdout()).gathering(!rt.stdout().is_terminal());
     let mut err = OutputSink::new(rt.stderr());
-    let arguments = arguments(&rt);
+    let arguments = arguments(&rt, rt.alloc());
     ExitCode::from(run_call(
         &rt,
         rt.alloc(),
@@ -33,9 +33,4 @@ fn main(rt: HostRuntime) -> ExitCode {
         &mut err,
         &OpenGate,
     ))
-}
-
-// The arguments of this call.
-fn arguments<R: Env + AllocGlobal>(rt: &R) -> io::Result<Vec<String>> {
-    Ok(env::args(rt)?.collect(rt.alloc())?)
 }

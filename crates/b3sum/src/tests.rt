@@ -1,4 +1,5 @@
 // The program over words, and over shelves and sinks in memory.
 
+mod arguments;
 mod calls;
 mod words;
