@@ -60,7 +60,8 @@ pub fn room(alloc: Global, readers: usize) -> Result<Vec<u8>, AllocError>
 }
 
 /// The output of what is left of the file that is begun. Nothing where it is to be read in order: no two workers read
-/// for themselves, it is not long, it may take more reads than `limits` allow, it has not the length that it tells, or some of it could not be read.
+/// for themselves, it is not long, it may take more reads than `limits` allow, it has not the length that it tells, or
+/// some of it could not be read.
 pub fn hash_pieces<R: Threads + Wait + Sync, G: Gate + Sync, S: Shelf + Send + Sync>(
     crew: &Crew<'_, R, G>,
     shelf: &S,
