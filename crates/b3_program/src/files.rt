@@ -62,6 +62,7 @@ impl<'a, F: Files, I: Read> FileShelf<'a, F, I> {
 
     /// The same shelf, whose input is what the system shows at these paths: a plain file is read at places too.
     pub fn shown_at(self, paths: InputPaths<'a>) -> FileShelf<'a, F, I>
+        ensures shown { result.input_paths ≡ Some paths.entry }
         ensures input { result.input ≡ self.entry.input }
         ensures free { result.is_input_taken ≡ self.entry.is_input_taken }
         ensures source { result.source ≡ self.entry.source }
