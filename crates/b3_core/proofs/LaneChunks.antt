@@ -1,11 +1,13 @@
 -- Chunks on lanes: blocks that are loaded by rows of four words, and the compressions of a full chunk.
 use Rattle.std.proofs.Common.{◌≡◌, ℕ, ◌+◌, ◌*◌, ◌/◌, ◌<◌, ◌≤◌, List, [], ◌∷◌, ◌++◌, length, map, get_or, take, drop}
-use Rattle.std.proofs.Common.{refl, sym, ap, ◌∙◌, arith, w32, bit_or, ◌-◌}
+use Rattle.std.proofs.Common.{refl, sym, ap, ◌∙◌, arith, w32, bit_or, ◌-◌, ◌⊎◌, inl, inr, ◌≢◌}
+use Rattle.std.specs.Prelude.{nat_eq, if◌then◌else◌}
 use Rattle.std.specs.Int.{from_le_bytes}
 use Rattle.std.specs.List.{range_with_len}
 use Rattle.std.specs.Simd.Lanes.{pick_l}
 use Rattle.std.proofs.lemmas.List.{get_or-take, get_or-drop, length-take-le, length-drop, drop-drop, drop-take}
 use Rattle.std.proofs.lemmas.List.{take-take}
+use Rattle.std.proofs.lemmas.Bool.{ne_eqb}
 use Rattle.b3_core.specs.Words.{word_at, words_of}
 use Rattle.b3_core.specs.Compression.{compress}
 use Rattle.b3_core.specs.Nodes.{chaining}
@@ -13,7 +15,7 @@ use Rattle.b3_core.specs.Chunks.{block_flags, carried, chunk_at, chunk_node, las
 use Rattle.b3_core.specs.declared.modes.Mode.{Mode}
 use Rattle.b3_core.specs.declared.nodes.Node.{Node}
 use Rattle.b3_core.proofs.ChunkNodes.{block_node-whole, carried-suc, chunk_node-last}
-use Rattle.b3_core.specs.Lanes.{lane, word_from}
+use Rattle.b3_core.specs.Lanes.{full_chunk_flags, lane, word_from}
 use Rattle.b3_core.proofs.Lists.{below_eight}
 
 -- row j and row j + 4, four words each
@@ -84,25 +86,37 @@ length-block_at : (chunk : List ℕ) (k : ℕ) → length chunk ≡ 1024 → k <
 length-block_at chunk k full k_in =
     length-take-le 64 (drop (64 * k) chunk) (omega (arith, full, length-drop (64 * k) chunk))
 
--- what an inner block of a full chunk hands on
-pub carried-full : (mode : Mode) (number : ℕ) (chunk : List ℕ) (k : ℕ) (h m : List ℕ) → length chunk ≡ 1024 → k < 16
-    → h ≡ carried mode number chunk k
-    → m ≡ words_of (take 64 (drop (64 * k) chunk))
-    → take 8 (compress h m number 64 (block_flags mode k)) ≡ carried mode number chunk (k + 1)
-carried-full mode number chunk k h m full k_in h_is m_is =
-    ap chaining (block_node-whole mode number k h m (take 64 (drop (64 * k) chunk))
-    (length-block_at chunk k full k_in) m_is)
-    ∙ carried-suc mode number chunk k 64 h refl h_is
+-- the chaining value after k blocks of a full chunk
+abbrev pub after_blocks : Mode → ℕ → List ℕ → ℕ → List ℕ
+after_blocks mode number chunk k =
+    if nat_eq k 16 then chaining (chunk_node mode number chunk) else carried mode number chunk k
 
--- the chaining value of a full chunk
-pub chaining-full : (mode : Mode) (number : ℕ) (chunk h m : List ℕ) → length chunk ≡ 1024
-    → h ≡ carried mode number chunk 15
-    → m ≡ words_of (take 64 (drop (64 * 15) chunk))
-    → take 8 (compress h m number 64 (bit_or mode.flag 2)) ≡ chaining (chunk_node mode number chunk)
+after_blocks-carried : (mode : Mode) (number : ℕ) (chunk : List ℕ) (k : ℕ) → k ≢ 16
+    → after_blocks mode number chunk k ≡ carried mode number chunk k
+after_blocks-carried mode number chunk k inner =
+    ap (λ b. if b then chaining (chunk_node mode number chunk) else carried mode number chunk k) (ne_eqb k 16 inner)
+
+-- after one more block
+pub after_blocks-suc : (mode : Mode) (number : ℕ) (chunk : List ℕ) (k : ℕ) (h m : List ℕ) → length chunk ≡ 1024
+    → k < 16 → (k ≡ 15) ⊎ (k ≢ 15)
+    → h ≡ after_blocks mode number chunk k
+    → m ≡ words_of (take 64 (drop (64 * k) chunk))
+    → take 8 (compress h m number 64 (full_chunk_flags mode k)) ≡ after_blocks mode number chunk (k + 1)
 unfolding last_block_node
-chaining-full mode number chunk h m full h_is m_is =
-    let last : 15 ≡ last_block chunk = omega (arith, full) in
-    let block = take 64 (drop (64 * 15) chunk) in
-    ap (λ (node : Node). chaining (record node { d = bit_or node.d 2 }))
-    (block_node-whole mode number 15 h m block (length-block_at chunk 15 full (omega arith)) m_is)
-    ∙ ap chaining (chunk_node-last mode number chunk 15 15 64 h last last (omega (arith, full)) h_is)
+after_blocks-suc mode number chunk k h m full k_in (inl last) h_is m_is =
+    let block = take 64 (drop (64 * k) chunk) in
+    let is_last : k ≡ last_block chunk = omega (arith, full, last) in
+    let flags = ap (full_chunk_flags mode) last ∙ sym (ap (λ i. bit_or (block_flags mode i) 2) last) in
+    ap (λ d. take 8 (compress h m number 64 d)) flags
+    ∙ ap (λ (node : Node). chaining (record node { d = bit_or node.d 2 }))
+    (block_node-whole mode number k h m block (length-block_at chunk k full k_in) m_is)
+    ∙ ap chaining (chunk_node-last mode number chunk k k 64 h is_last is_last (omega (arith, full, last))
+    (h_is ∙ after_blocks-carried mode number chunk k (λ is. omega (arith, is, k_in))))
+    ∙ sym (ap (λ i. after_blocks mode number chunk (i + 1)) last)
+after_blocks-suc mode number chunk k h m full k_in (inr inner) h_is m_is =
+    let block = take 64 (drop (64 * k) chunk) in
+    ap (λ b. take 8 (compress h m number 64 (if b then bit_or mode.flag 2 else block_flags mode k))) (ne_eqb k 15 inner)
+    ∙ ap chaining (block_node-whole mode number k h m block (length-block_at chunk k full k_in) m_is)
+    ∙ carried-suc mode number chunk k 64 h refl
+    (h_is ∙ after_blocks-carried mode number chunk k (λ is. omega (arith, is, k_in)))
+    ∙ sym (after_blocks-carried mode number chunk (k + 1) (λ is. inner (omega (arith, is))))

@@ -120,30 +120,16 @@ turned-at v p q r j y wide p_in q_in j_in y_is =
     ∙ get_or-map (λ n. rotate_right w32 n r) (zip2 bit_xor (get_or v p []) (get_or v q [])) j 0 0 (omega (arith, long))
     ∙ ap (λ n. rotate_right w32 n r) (lane-zip2 bit_xor 16 16 v v p q j wide wide p_in q_in j_in)
 
--- a half of G: its vectors are wide
-pub wide-half_g : (v : List (List ℕ)) (a b c d r s : ℕ) (x y z : List ℕ)
+-- after a half of G the vectors are wide, and each lane has a half of G
+pub half_g-lanes : (v : List (List ℕ)) (a b c d r s : ℕ) (x y z : List ℕ)
     → a < 16 → b < 16 → c < 16 → d < 16 → AreWide 16 v → length x ≡ 8
     → IsTurned (added_three v a b x) d a r y
     → IsTurned (added_two (set (added_three v a b x) d y) c d) b c s z
     → AreWide 16 (set (added_two (set (added_three v a b x) d y) c d) b z)
-wide-half_g v a b c d r s x y z a_in b_in c_in d_in wide long y_is z_is =
-    let v1 = added_three v a b x in
-    let w1 = wide-added_three v a b x wide a_in b_in long in
-    let v2 = set v1 d y in
-    let w2 = wide-set v1 16 d y w1 (length-turned v1 d a r y w1 d_in a_in y_is) in
-    let v3 = added_two v2 c d in
-    let w3 = wide-added_two v2 c d w2 c_in d_in in
-    wide-set v3 16 b z w3 (length-turned v3 b c s z w3 b_in c_in z_is)
-
--- and each lane has a half of G
-pub lane-half_g : (v : List (List ℕ)) (a b c d r s : ℕ) (x y z : List ℕ)
-    → a < 16 → b < 16 → c < 16 → d < 16 → AreWide 16 v → length x ≡ 8
-    → IsTurned (added_three v a b x) d a r y
-    → IsTurned (added_two (set (added_three v a b x) d y) c d) b c s z
-    → (j : ℕ) → j < 8
-    → lane j (set (added_two (set (added_three v a b x) d y) c d) b z) ≡ half_g (lane j v) a b c d (get_or x j 0) r s
+    × ((j : ℕ) → j < 8
+    → lane j (set (added_two (set (added_three v a b x) d y) c d) b z) ≡ half_g (lane j v) a b c d (get_or x j 0) r s)
 unfolding half_g
-lane-half_g v a b c d r s x y z a_in b_in c_in d_in wide long y_is z_is j j_in =
+half_g-lanes v a b c d r s x y z a_in b_in c_in d_in wide long y_is z_is =
     let v1 = added_three v a b x in
     let w1 = wide-added_three v a b x wide a_in b_in long in
     let v2 = set v1 d y in
@@ -152,9 +138,12 @@ lane-half_g v a b c d r s x y z a_in b_in c_in d_in wide long y_is z_is j j_in =
     let w3 = wide-added_two v2 c d w2 c_in d_in in
     let turn : ℕ → ℕ → ℕ → List ℕ → List ℕ =
     λ p q k w. set w p (rotate_right w32 (bit_xor (get_or w p 0) (get_or w q 0)) k) in
-    let sum : List ℕ → List ℕ = λ w. set w c (add32 (get_or w c 0) (get_or w d 0)) in
-    let e1 = lane-added_three v a b j x wide a_in b_in j_in long in
-    let e2 = lane-set j d v1 y ∙ ap (set (lane j v1) d) (turned-at v1 d a r j y w1 d_in a_in j_in y_is) in
-    let e3 = lane-added_two v2 c d j w2 c_in d_in j_in in
-    let e4 = lane-set j b v3 z ∙ ap (set (lane j v3) b) (turned-at v3 b c s j z w3 b_in c_in j_in z_is) in
-    e4 ∙ ap (turn b c s) (e3 ∙ ap sum (e2 ∙ ap (turn d a r) e1))
+    let sum : List ℕ → List ℕ = λ w. set w c (add32 (get_or w c 0) (get_or w d 0)) in (
+      wide-set v3 16 b z w3 (length-turned v3 b c s z w3 b_in c_in z_is),
+      λ j j_in.
+          let e1 = lane-added_three v a b j x wide a_in b_in j_in long in
+          let e2 = lane-set j d v1 y ∙ ap (set (lane j v1) d) (turned-at v1 d a r j y w1 d_in a_in j_in y_is) in
+          let e3 = lane-added_two v2 c d j w2 c_in d_in j_in in
+          let e4 = lane-set j b v3 z ∙ ap (set (lane j v3) b) (turned-at v3 b c s j z w3 b_in c_in j_in z_is) in
+          e4 ∙ ap (turn b c s) (e3 ∙ ap sum (e2 ∙ ap (turn d a r) e1)),
+    )

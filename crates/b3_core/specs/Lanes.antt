@@ -1,9 +1,10 @@
 -- Vectors of eight lanes, each a list of eight words, and what lanes are about.
 use Rattle.std.specs.Prelude.{◌≡◌, ℕ, ◌+◌, ◌*◌, ◌<◌, List, [], ◌∷◌, length, map, take, drop, slice_index}
-use Rattle.std.specs.Prelude.{slice_index_or}
+use Rattle.std.specs.Prelude.{slice_index_or, bit_or, nat_eq, if◌then◌else◌}
 use Rattle.std.specs.Int.{w32, from_le_bytes}
 use Rattle.b3_core.specs.Nodes.{chaining}
-use Rattle.b3_core.specs.Chunks.{chunk_at, chunk_len, chunk_node}
+use Rattle.b3_core.specs.Modes.{chunk_end_flag}
+use Rattle.b3_core.specs.Chunks.{block_flags, chunk_at, chunk_len, chunk_node}
 use Rattle.b3_core.specs.declared.modes.Mode.{Mode}
 
 -- what lane j of a list of vectors holds
@@ -22,6 +23,10 @@ word_from bytes at = from_le_bytes w32
 -- part j of an input, of parts of w chunks each
 abbrev pub part : ℕ → ℕ → List ℕ → List ℕ
 part w j input = take (chunk_len * w) (drop (chunk_len * w * j) input)
+
+-- the flags of block k of a full chunk
+abbrev pub full_chunk_flags : Mode → ℕ → ℕ
+full_chunk_flags mode k = if nat_eq k 15 then bit_or mode.flag chunk_end_flag else block_flags mode k
 
 -- the chaining value of chunk j of an input whose chunks are numbered from `first`
 abbrev pub chunk_chaining : Mode → ℕ → List ℕ → ℕ → List ℕ

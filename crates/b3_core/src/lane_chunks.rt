@@ -6,7 +6,7 @@ ghost use Rattle.std.specs.List.{range_with_len};
 ghost use Rattle.b3_core.specs.Words.{words_of};
 ghost use Rattle.b3_core.specs.Chunks.{chunk_at, chunk_node};
 ghost use Rattle.b3_core.specs.Nodes.{chaining};
-ghost use Rattle.b3_core.specs.Lanes.{AreWide, chunk_chaining, lane, word_from};
+ghost use Rattle.b3_core.specs.Lanes.{AreWide, chunk_chaining, full_chunk_flags, lane, word_from};
 
 use crate::flags::CHUNK_END;
 use crate::lanes::{all_listed, chainings8, counters_from};
@@ -15,7 +15,7 @@ use crate::modes::Mode;
 use crate::spread::spread;
 use std::simd::prelude::*;
 
-const LAST_BLOCK: usize = 15;
+const BLOCKS: usize = 16;
 
 // Four words from this place on.
 #[inline(always)]
@@ -101,6 +101,18 @@ fn places_of(n: usize) -> [usize; 8]
     ]
 }
 
+// The flags of block `k` of a full chunk.
+#[inline(always)]
+fn full_chunk_flags(mode: &Mode, k: usize) -> u32
+    ensures { result ≡ full_chunk_flags mode.now k }
+{
+    if k == BLOCKS - 1 {
+        mode.flag | CHUNK_END
+    } else {
+        block_flags(mode, k)
+    }
+}
+
 // The chaining values of `n` full chunks, numbered from `first` on. The lanes from `n` on are idle.
 #[inline(always)]
 fn chain_lanes(mode: &Mode, first: u64, bytes: &[u8], n: usize) -> [u32x8; 8]
@@ -115,20 +127,13 @@ fn chain_lanes(mode: &Mode, first: u64, bytes: &[u8], n: usize) -> [u32x8; 8]
     let places = places_of(n);
     let (low, high) = counters_from(first);
     let mut h = spread(&mode.key);
-    'inner: for k in 0..LAST_BLOCK {
+    'inner: for k in 0..BLOCKS {
         let m = load8(bytes, &places, BLOCK_LEN * k);
-        let next = chainings8(&h, &m, low, high, BLOCK_LEN as u32, block_flags(mode, k));
+        let flags = full_chunk_flags(mode, k);
+        let next = chainings8(&h, &m, low, high, BLOCK_LEN as u32, flags);
         h = next;
     }
-    let last = load8(bytes, &places, BLOCK_LEN * LAST_BLOCK);
-    chainings8(
-        &h,
-        &last,
-        low,
-        high,
-        BLOCK_LEN as u32,
-        mode.flag | CHUNK_END,
-    )
+    h
 }
 
 // The chaining values of eight full chunks: the places are known, so the loads are plain.

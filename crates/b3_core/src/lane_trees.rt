@@ -15,8 +15,9 @@ use crate::spread::spread;
 use crate::tree::{chunks, left, parent_node};
 use std::simd::prelude::*;
 
-// The parents of sixteen chaining values, two by two: `left` has the first eight of them.
-#[inline(always)]
+// The parents of sixteen chaining values, two by two: `left` has the first eight of them. All levels share it, as
+// the rounds that are inlined are long.
+#[inline(never)]
 fn parents8(mode: &Mode, left: &[u32x8; 8], right: &[u32x8; 8]) -> [u32x8; 8]
     requires left { AreWide 8 left.now }
     requires right { AreWide 8 right.now }

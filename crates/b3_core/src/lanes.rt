@@ -3,80 +3,58 @@
 
 ghost use Rattle.std.specs.Prelude.{◌≡◌, ℕ, List, [], ◌++◌, ◌+◌, ◌*◌, ◌/◌, ◌%◌, ◌^◌, ◌<◌, ◌≤◌, length, map, take, drop};
 ghost use Rattle.std.specs.Prelude.{slice_index, slice_index_or};
-ghost use Rattle.std.specs.Int.{w32, rotate_right};
 ghost use Rattle.b3_core.specs.Compression.{compress, half_g, output, permuted, round, rounds, start};
 ghost use Rattle.b3_core.specs.Lanes.{AreWide, lane};
 
 use crate::compression::INITIAL_VALUE;
+use crate::lane_rotations::mixed8;
 use std::simd::prelude::*;
-
-// Each lane turned right by `r` bits.
-#[inline(always)]
-fn rotated8(x: u32x8, r: u32) -> u32x8
-    requires some { 0 < r }
-    requires below { r < 32 }
-    requires wide { length x ≡ 8 }
-    ensures { result ≡ map (λ n. rotate_right w32 n r) x }
-{
-    (x >> u32x8::splat(r)) | (x << u32x8::splat(32 - r))
-}
 
 // One half of G on each lane, on the places `a`, `b`, `c` and `d` of the state.
 #[inline(always)]
-fn half_g8(
-    v: [u32x8; 16],
-    a: usize,
-    b: usize,
-    c: usize,
-    d: usize,
-    x: u32x8,
-    r: u32,
-    s: u32,
-) -> [u32x8; 16]
+fn half_g8(v: &mut [u32x8; 16], a: usize, b: usize, c: usize, d: usize, x: u32x8, r: u32, s: u32)
     requires a { a < 16 }
     requires b { b < 16 }
     requires c { c < 16 }
     requires d { d < 16 }
     requires some { (0 < r) × (0 < s) }
     requires below { (r < 32) × (s < 32) }
-    requires wide { AreWide 16 v }
+    requires wide { AreWide 16 v.old }
     requires x { length x ≡ 8 }
-    ensures wide { AreWide 16 result }
-    ensures lanes { (j : ℕ) → j < 8 → lane j result ≡ half_g (lane j v) a b c d (slice_index x j) r s }
+    ensures wide { AreWide 16 v.new }
+    ensures lanes { (j : ℕ) → j < 8 → lane j v.new ≡ half_g (lane j v.old) a b c d (slice_index x j) r s }
 {
-    let mut v = v;
     v[a] = v[a] + v[b] + x;
-    v[d] = rotated8(v[d] ^ v[a], r);
+    v[d] = mixed8(v[d], v[a], r);
     v[c] = v[c] + v[d];
-    v[b] = rotated8(v[b] ^ v[c], s);
-    v
+    v[b] = mixed8(v[b], v[c], s);
 }
 
 // The four Gs on the columns go step by step together, then those on the diagonals: this leaves the
 // processor more to do at once than one G after another.
 #[inline(always)]
-fn round8(v: [u32x8; 16], m: &[u32x8; 16]) -> [u32x8; 16]
-    requires wide { AreWide 16 v }
+fn round8(v: &mut [u32x8; 16], m: &[u32x8; 16])
+    requires wide { AreWide 16 v.old }
     requires message { AreWide 16 m.now }
-    ensures wide { AreWide 16 result }
-    ensures lanes { (j : ℕ) → j < 8 → lane j result ≡ round (lane j v) (lane j m.now) }
+    ensures wide { AreWide 16 v.new }
+    ensures lanes { (j : ℕ) → j < 8 → lane j v.new ≡ round (lane j v.old) (lane j m.now) }
 {
-    let v = half_g8(v, 0, 4, 8, 12, m[0], 16, 12);
-    let v = half_g8(v, 1, 5, 9, 13, m[2], 16, 12);
-    let v = half_g8(v, 2, 6, 10, 14, m[4], 16, 12);
-    let v = half_g8(v, 3, 7, 11, 15, m[6], 16, 12);
-    let v = half_g8(v, 0, 4, 8, 12, m[1], 8, 7);
-    let v = half_g8(v, 1, 5, 9, 13, m[3], 8, 7);
-    let v = half_g8(v, 2, 6, 10, 14, m[5], 8, 7);
-    let v = half_g8(v, 3, 7, 11, 15, m[7], 8, 7);
-    let v = half_g8(v, 0, 5, 10, 15, m[8], 16, 12);
-    let v = half_g8(v, 1, 6, 11, 12, m[10], 16, 12);
-    let v = half_g8(v, 2, 7, 8, 13, m[12], 16, 12);
-    let v = half_g8(v, 3, 4, 9, 14, m[14], 16, 12);
-    let v = half_g8(v, 0, 5, 10, 15, m[9], 8, 7);
-    let v = half_g8(v, 1, 6, 11, 12, m[11], 8, 7);
-    let v = half_g8(v, 2, 7, 8, 13, m[13], 8, 7);
-    half_g8(v, 3, 4, 9, 14, m[15], 8, 7)
+    half_g8(v, 0, 4, 8, 12, m[0], 16, 12);
+    half_g8(v, 1, 5, 9, 13, m[2], 16, 12);
+    half_g8(v, 2, 6, 10, 14, m[4], 16, 12);
+    half_g8(v, 3, 7, 11, 15, m[6], 16, 12);
+    half_g8(v, 0, 4, 8, 12, m[1], 8, 7);
+    half_g8(v, 1, 5, 9, 13, m[3], 8, 7);
+    half_g8(v, 2, 6, 10, 14, m[5], 8, 7);
+    half_g8(v, 3, 7, 11, 15, m[7], 8, 7);
+    half_g8(v, 0, 5, 10, 15, m[8], 16, 12);
+    half_g8(v, 1, 6, 11, 12, m[10], 16, 12);
+    half_g8(v, 2, 7, 8, 13, m[12], 16, 12);
+    half_g8(v, 3, 4, 9, 14, m[14], 16, 12);
+    half_g8(v, 0, 5, 10, 15, m[9], 8, 7);
+    half_g8(v, 1, 6, 11, 12, m[11], 8, 7);
+    half_g8(v, 2, 7, 8, 13, m[13], 8, 7);
+    half_g8(v, 3, 4, 9, 14, m[15], 8, 7);
 }
 
 // Renames the vectors, so it costs nothing once it is inlined.
@@ -92,28 +70,31 @@ fn permuted8(m: &[u32x8; 16]) -> [u32x8; 16]
     ]
 }
 
-// Seven rounds, written out: a loop would move the message through memory for each permutation. All that is
-// done on lanes shares them: they are long, and would be in the program once for each caller if they were inlined.
-#[inline(never)]
+// Seven rounds, written out: a loop would move the message through memory for each permutation. Inlined, they keep
+// the state in registers from the start of a compression to its output words: a call would copy sixteen vectors in
+// and out.
+#[inline(always)]
 fn rounds8(v: [u32x8; 16], m: &[u32x8; 16]) -> [u32x8; 16]
     requires wide { AreWide 16 v }
     requires message { AreWide 16 m.now }
     ensures wide { AreWide 16 result }
     ensures lanes { (j : ℕ) → j < 8 → lane j result ≡ rounds 7 (lane j v) (lane j m.now) }
 {
-    let v = round8(v, m);
+    let mut v = v;
+    round8(&mut v, m);
     let m = permuted8(m);
-    let v = round8(v, &m);
+    round8(&mut v, &m);
     let m = permuted8(&m);
-    let v = round8(v, &m);
+    round8(&mut v, &m);
     let m = permuted8(&m);
-    let v = round8(v, &m);
+    round8(&mut v, &m);
     let m = permuted8(&m);
-    let v = round8(v, &m);
+    round8(&mut v, &m);
     let m = permuted8(&m);
-    let v = round8(v, &m);
+    round8(&mut v, &m);
     let m = permuted8(&m);
-    round8(v, &m)
+    round8(&mut v, &m);
+    v
 }
 
 // The state before the first round, of the chaining values `h`, and of the counters' low and high words.
@@ -186,8 +167,8 @@ pub(crate) fn back8(v: &[u32x8; 16], h: &[u32x8; 8]) -> [u32x8; 8]
 }
 
 // The chaining values of eight compressions, of the chaining values `h`, the messages `m`, the low and
-// high words of the counters, one block length `b` and one set of flags `d`. Chunks and parents share it.
-#[inline(never)]
+// high words of the counters, one block length `b` and one set of flags `d`.
+#[inline(always)]
 pub(crate) fn chainings8(
     h: &[u32x8; 8],
     m: &[u32x8; 16],
@@ -433,7 +414,7 @@ pub(crate) fn counters_from(first: u64) -> (u32x8, u32x8)
 
 // The state after seven rounds of eight compressions, of the chaining values `h`, the messages `m`, the low
 // and high words of the counters, one block length `b` and one set of flags `d`, for what needs all sixteen
-// output words. A call of its own would copy the sixteen vectors once more each way.
+// output words.
 #[inline(always)]
 pub(crate) fn states8(
     h: &[u32x8; 8],

@@ -6,13 +6,13 @@ pub returns-clause-lanes : goal.returns-clause-lanes
 unfolding rounds
 returns-clause-lanes c j lt =
     rw (
+      c.round8-7.ensures.lanes j lt,
+      c.round8-6.ensures.lanes j lt,
+      c.round8-5.ensures.lanes j lt,
+      c.round8-4.ensures.lanes j lt,
+      c.round8-3.ensures.lanes j lt,
+      c.round8-2.ensures.lanes j lt,
       c.round8.ensures.lanes j lt,
-      c.round8-v-6.ensures.lanes j lt,
-      c.round8-v-5.ensures.lanes j lt,
-      c.round8-v-4.ensures.lanes j lt,
-      c.round8-v-3.ensures.lanes j lt,
-      c.round8-v-2.ensures.lanes j lt,
-      c.round8-v.ensures.lanes j lt,
       c.permuted8-m-6.ensures.lanes j,
       c.permuted8-m-5.ensures.lanes j,
       c.permuted8-m-4.ensures.lanes j,

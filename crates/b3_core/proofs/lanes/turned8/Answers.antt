@@ -2,20 +2,9 @@ use Rattle.std.proofs.Common.{◌≡◌, ◌<◌, ℕ, List, [], ◌∷◌, ◌+
 use Rattle.std.specs.List.{range_with_len}
 use Rattle.std.specs.Simd.Lanes.{pick_l}
 use Rattle.b3_core.proofs.Lists.{below_eight, elements}
+use Rattle.b3_core.proofs.LaneChunks.{exchanged}
 use Rattle.b3_core.proofs.LaneWords.{lane-elements}
 use Rattle.b3_core.proofs.lanes.turned8.Goals as goal
-
--- four rows, exchanged within each half: word j of each, and then word j + 4
-abbrev halves : List ℕ → List ℕ → List ℕ → List ℕ → List (List ℕ)
-halves r0 r1 r2 r3 =
-    let a0 = pick_l 0 (r0 ++ r1) (0 ∷ 8 ∷ 1 ∷ 9 ∷ 4 ∷ 12 ∷ 5 ∷ 13 ∷ []) in
-    let a1 = pick_l 0 (r0 ++ r1) (2 ∷ 10 ∷ 3 ∷ 11 ∷ 6 ∷ 14 ∷ 7 ∷ 15 ∷ []) in
-    let a2 = pick_l 0 (r2 ++ r3) (0 ∷ 8 ∷ 1 ∷ 9 ∷ 4 ∷ 12 ∷ 5 ∷ 13 ∷ []) in
-    let a3 = pick_l 0 (r2 ++ r3) (2 ∷ 10 ∷ 3 ∷ 11 ∷ 6 ∷ 14 ∷ 7 ∷ 15 ∷ []) in
-    pick_l 0 (a0 ++ a2) (0 ∷ 1 ∷ 8 ∷ 9 ∷ 4 ∷ 5 ∷ 12 ∷ 13 ∷ [])
-    ∷ pick_l 0 (a0 ++ a2) (2 ∷ 3 ∷ 10 ∷ 11 ∷ 6 ∷ 7 ∷ 14 ∷ 15 ∷ [])
-    ∷ pick_l 0 (a1 ++ a3) (0 ∷ 1 ∷ 8 ∷ 9 ∷ 4 ∷ 5 ∷ 12 ∷ 13 ∷ [])
-    ∷ pick_l 0 (a1 ++ a3) (2 ∷ 3 ∷ 10 ∷ 11 ∷ 6 ∷ 7 ∷ 14 ∷ 15 ∷ []) ∷ []
 
 -- the front or the back halves of two rows, joined
 abbrev fronts : List (List ℕ) → List (List ℕ) → ℕ → List ℕ
@@ -35,11 +24,11 @@ row at i = map (at i) (range_with_len 0 8)
 
 -- column j is row j of what is turned
 turned-columns : (at : ℕ → ℕ → ℕ) (j : ℕ) → j < 8
-    → get_or (turned (halves (row at 0) (row at 1) (row at 2) (row at 3))
-    (halves (row at 4) (row at 5) (row at 6) (row at 7))) j [] ≡ map (λ i. at i j) (range_with_len 0 8)
+    → get_or (turned (exchanged (row at 0) (row at 1) (row at 2) (row at 3))
+    (exchanged (row at 4) (row at 5) (row at 6) (row at 7))) j [] ≡ map (λ i. at i j) (range_with_len 0 8)
 turned-columns at =
-    below_eight (λ j. get_or (turned (halves (row at 0) (row at 1) (row at 2) (row at 3))
-    (halves (row at 4) (row at 5) (row at 6) (row at 7))) j [] ≡ map (λ i. at i j) (range_with_len 0 8))
+    below_eight (λ j. get_or (turned (exchanged (row at 0) (row at 1) (row at 2) (row at 3))
+    (exchanged (row at 4) (row at 5) (row at 6) (row at 7))) j [] ≡ map (λ i. at i j) (range_with_len 0 8))
     refl refl refl refl refl refl refl refl
 
 pub returns-clause-lanes : goal.returns-clause-lanes
@@ -48,8 +37,8 @@ returns-clause-lanes c j lt =
     let words : (i : ℕ) → i < 8 → get_or v i [] ≡ row (λ i k. get_or (get_or v i []) k 0) i =
     λ i i_in. elements (get_or v i []) 8 (c.requires.1 i i_in) in
     (λ k. get_or (turned
-    (halves (words 0 (omega arith) k) (words 1 (omega arith) k) (words 2 (omega arith) k) (words 3 (omega arith) k))
-    (halves (words 4 (omega arith) k) (words 5 (omega arith) k) (words 6 (omega arith) k) (words 7 (omega arith) k)))
+    (exchanged (words 0 (omega arith) k) (words 1 (omega arith) k) (words 2 (omega arith) k) (words 3 (omega arith) k))
+    (exchanged (words 4 (omega arith) k) (words 5 (omega arith) k) (words 6 (omega arith) k) (words 7 (omega arith) k)))
     j [])
     ∙ turned-columns (λ i k. get_or (get_or v i []) k 0) j lt
     ∙ sym (lane-elements j 8 v c.requires.0)
