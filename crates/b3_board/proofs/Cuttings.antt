@@ -155,15 +155,6 @@ span_inside n spans cutting i short =
 pub kept_none : (spans : List Span) → sum_by kept_count (map fresh spans) ≡ 0
 kept_none spans = sum_map kept_count spans ∙ sum_zero spans
 
-pub span_low : (input : List ℕ) (first : ℕ) (spans : List Span) → IsCutting (chunks (length input)) spans
-    → first + chunks (length input) ≤ 2 ^ 54 → (i : ℕ) → i < length spans
-    → first + (get_or spans i no_span).first
-    + chunks (length (part input (get_or spans i no_span).first (get_or spans i no_span).count)) ≤ 2 ^ 54
-span_low input first spans cutting low i short =
-    let h = span_inside (chunks (length input)) spans cutting i short in
-    let len = part-length input (get_or spans i no_span).first (get_or spans i no_span).count in
-    omega (arith, len, h.0, h.1)
-
 -- one more span at the end of a row
 pub row_push : (n m c : ℕ) (spans : List Span) → IsRow n m spans → 0 < c → ∥ IsSubtree n m c ∥₁
     → IsRow n (m + c) (spans ++ record { first = m; count = c } ∷ [])

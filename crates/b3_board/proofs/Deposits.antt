@@ -8,7 +8,7 @@ use Rattle.b3_core.specs.declared.modes.Mode.{Mode}
 use Rattle.b3_core.specs.declared.tree.Span.{Span}
 use Rattle.b3_board.specs.Entries.{IsInOrder, NoneOpen, at, kept_chunk, nothing, open_span, open_spans, pieces, some_open}
 use Rattle.b3_board.specs.Pictures.{IsAscending, IsDeposit, Piece, ahead, no_spans}
-use Rattle.b3_board.specs.Spans.{has}
+use Rattle.b3_board.specs.Spans.{Known, has}
 use Rattle.b3_board.specs.declared.entries.Entry.{Entry}
 use Rattle.b3_board.specs.declared.entries.State.TheVariants.{Open}
 use Rattle.b3_board.proofs.Filtered.{All-filter_map, Contains-from_place, place-from_Contains}
@@ -56,7 +56,7 @@ module _ (es : List Entry) where
   first_open-none (Some s) is = tt
 
 -- a span of the board that was closed is deposited
-pub deposited : {Input : Type 0} (input : Input) (mode : Mode) (first : ℕ) (es fs : List Entry) (place : ℕ) (s : Span)
+pub deposited : (input : Known) (mode : Mode) (first : ℕ) (es fs : List Entry) (place : ℕ) (s : Span)
     (book : ℕ)
     → (at es place).state ≡ Open → (at es place).span ≡ s → map open_span fs ≡ set (map open_span es) place None
     → ((k : ℕ) → sum_by (kept_chunk k) fs

@@ -52,7 +52,7 @@ has_inside k a c h = (omega arith, omega arith)
 has_some : (k a c : ℕ) → a ≤ k → k < a + c → 0 < has k a c
 has_some k a c low high = omega arith
 
-module _ (picture : Picture (List ℕ)) (lawful : IsLawful picture) where
+module _ (picture : Picture) (lawful : IsLawful picture) where
   abbrev n : ℕ
   n = size picture
 

@@ -31,11 +31,6 @@ pub IsNodeOf-in_memory : (input : List ℕ) (mode : Mode) (first : ℕ) (span : 
 IsNodeOf-in_memory input mode first span node is =
     is.is_top ∙ ap (λ (b : List ℕ). top_of b mode first span) (is.may_be.told_is input refl)
 
-pub in_memory-IsNodeOf : (input : List ℕ) (mode : Mode) (first : ℕ) (span : Span) (node : Node)
-    → node ≡ top_of input mode first span → IsNodeOf (in_memory input) mode first span node
-in_memory-IsNodeOf input mode first span node is =
-    record { bytes = input; may_be = MayBe-in_memory input; is_top = is }
-
 -- bytes of two inputs, the first up to place k and the second from there on
 spliced : ℕ → List ℕ → List ℕ → List ℕ
 spliced k xs ys = take k xs ++ drop k ys
@@ -109,11 +104,21 @@ IsNodeOf-joined input mode first a l b r x y kids x_is y_is =
           ∙ sym (top-part all mode first a l b r kids_all);
     }
 
--- the root of an input in memory is the top of its own bytes
-pub IsRootOf-in_memory : (input : List ℕ) (mode : Mode) (first : ℕ) (node : Node)
-    → IsRootOf (in_memory input) mode first node → node ≡ top mode first input
-IsRootOf-in_memory input mode first node is =
-    is.is_top ∙ ap (top mode first) (is.may_be.told_is input refl)
+-- the root of an input that is told is the top of its bytes
+pub IsRootOf-told : (input : Known) (mode : Mode) (first : ℕ) (node : Node) → IsRootOf input mode first node
+    → (all : List ℕ) → input.told ≡ Some all → node ≡ top mode first all
+IsRootOf-told input mode first node is all told = is.is_top ∙ ap (top mode first) (is.may_be.told_is all told)
+
+-- the same of an input in memory that is the named one
+pub IsNodeOf-named : (bytes : List ℕ) (input : Known) (mode own_mode : Mode) (first own_first : ℕ) (span : Span)
+    (node : Node)
+    → in_memory bytes ≡ input → mode ≡ own_mode → first ≡ own_first → node ≡ top_of bytes mode first span
+    → IsNodeOf input own_mode own_first span node
+IsNodeOf-named bytes input mode own_mode first own_first span node input_is mode_is first_is is = record {
+  bytes = bytes;
+  may_be = subst (λ (k : Known). MayBe k bytes) input_is (MayBe-in_memory bytes);
+  is_top = is ∙ (λ i. top_of bytes (mode_is i) (first_is i) span);
+}
 
 -- ---- bytes that were read
 

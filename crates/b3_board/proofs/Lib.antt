@@ -37,4 +37,4 @@ pub mod SeatViews
 -- What a worker did, after one more try.
 pub mod Working
 -- Sums over what workers hold, and the chunks of the spans that they claimed.
-pub mod Hands
+pub mod WorkerStates

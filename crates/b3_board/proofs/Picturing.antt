@@ -3,7 +3,6 @@ use Rattle.std.proofs.Common.{inl, inr, ◌≡◌, ℕ, ◌+◌, ◌<◌, Bool, 
 use Rattle.std.proofs.lemmas.Bool.{cases_lt, eq-eqb, eqb-true, false≢true}
 use Rattle.std.proofs.lemmas.List.Elements.{All-append, All-weaker}
 use Rattle.std.proofs.lemmas.List.Sums.{sum_by-append}
-use Rattle.std.specs.Prelude.{◌↔◌}
 use Rattle.std.specs.List.{All, Contains, filter_map, sum_by}
 use Rattle.std.specs.Option.{option_map}
 use Rattle.b3_core.specs.Subtrees.{AreSiblings}
@@ -12,14 +11,14 @@ use Rattle.b3_core.specs.declared.modes.Mode.{Mode}
 use Rattle.b3_core.specs.declared.nodes.Node.{Node}
 use Rattle.b3_core.specs.declared.tree.Span.{Span}
 use Rattle.b3_board.specs.Entries.{FitsState, Lawful, at, has_chunk, if_kept, if_open, is_joined, is_kept, kept_chunk, kept_count, nothing, open_span, open_spans, piece_of, pieces, some_open, some_piece}
-use Rattle.b3_board.specs.Pictures.{IsLawful, IsLawfulOver, KeepsLaws, Picture, Piece, size}
+use Rattle.b3_board.specs.Pictures.{HasTopsOf, IsLawful, Picture, Piece}
 use Rattle.b3_board.specs.Spans.{IsNodeOf, IsSubtreeSpan, Known, has, in_memory, times, top_of}
 use Rattle.b3_board.specs.declared.entries.Entry.{Entry}
 use Rattle.b3_board.specs.declared.entries.KeptNode.{KeptNode}
 use Rattle.b3_board.specs.declared.entries.State.{State}
 use Rattle.b3_board.specs.declared.entries.State.TheVariants.{Open, Kept, Joined}
 use Rattle.b3_board.proofs.Filtered.{All-filter_map, map-filter_map, or_zero, place-from_Contains, sum_by-both, sum_by-filter_map}
-use Rattle.b3_board.proofs.KnownNodes.{IsNodeOf-in_memory, in_memory-IsNodeOf}
+use Rattle.b3_board.proofs.KnownNodes.{IsNodeOf-in_memory}
 use Rattle.b3_board.proofs.Partners.{kept_some}
 use Rattle.b3_board.proofs.Steps.{has_none}
 
@@ -120,7 +119,7 @@ sum_kept g es =
     ∙ sum_by-filter_map g kept_span (λ e. if_kept e.state (g e.span)) (λ e. or_zero-kept g e.state e.span) es
 
 -- the picture of a board with these entries
-abbrev pub picture_of : {Input : Type 0} → Input → Mode → ℕ → List Entry → ℕ → Picture Input
+abbrev pub picture_of : Known → Mode → ℕ → List Entry → ℕ → Picture
 picture_of input mode first es book = record {
   input = input;
   mode = mode;
@@ -195,9 +194,8 @@ module _ (input : Known) (mode : Mode) (first : ℕ) (es : List Entry) (lawful :
       ]
 
   -- the picture of lawful entries is lawful
-  pub lawful_over : {Input : Type 0} (shown : Input) (book : ℕ) → sum_by kept_count es ≡ book
-      → IsLawfulOver input (picture_of shown mode first es book)
-  lawful_over shown book booked = record {
+  pub lawful_picture : (book : ℕ) → sum_by kept_count es ≡ book → IsLawful (picture_of input mode first es book)
+  lawful_picture book booked = record {
     subtrees = subtrees;
     once = once;
     nodes = nodes;
@@ -206,37 +204,11 @@ module _ (input : Known) (mode : Mode) (first : ℕ) (es : List Entry) (lawful :
     whole = omega (arith, booked, sum_open (λ (s : Span). s.count) es, lawful.sound.all);
   }
 
--- laws over the nodes that a span may have, from laws over fewer nodes
-KeepsLaws-weaker : {Input : Type 0} (n : ℕ) (IsFew IsMany : Span → Node → Type 0) (picture : Picture Input)
-    → ((s : Span) (node : Node) → IsFew s node → IsMany s node)
-    → KeepsLaws n IsFew picture
-    → KeepsLaws n IsMany picture
-KeepsLaws-weaker n IsFew IsMany picture more laws = record {
-  subtrees = laws.subtrees;
-  once = laws.once;
-  nodes = All-weaker (λ (p : Piece). IsFew p.span p.node) (λ (p : Piece). IsMany p.span p.node)
-      (λ p is. more p.span p.node is) picture.pieces laws.nodes;
-  apart = laws.apart;
-  booked = laws.booked;
-  whole = laws.whole;
-}
-
--- over an input in memory, the laws over what is known are to the letter the laws over its bytes
-pub IsLawfulOver-in_memory : (picture : Picture (List ℕ))
-    → IsLawfulOver (in_memory picture.input) picture ↔ IsLawful picture
-IsLawfulOver-in_memory picture =
-    let IsKnown : Span → Node → Type 0 = IsNodeOf (in_memory picture.input) picture.mode picture.first in
-    let IsTop : Span → Node → Type 0 = λ s node. node ≡ top_of picture.input picture.mode picture.first s in (
-      KeepsLaws-weaker (size picture) IsKnown IsTop picture
-          (λ s node. IsNodeOf-in_memory picture.input picture.mode picture.first s node),
-      KeepsLaws-weaker (size picture) IsTop IsKnown picture
-          (λ s node. in_memory-IsNodeOf picture.input picture.mode picture.first s node),
-    )
-
-pub lawful_picture : (input : List ℕ) (mode : Mode) (first : ℕ) (es : List Entry)
-    → Lawful (in_memory input) mode first es
-    → (book : ℕ) → sum_by kept_count es ≡ book
-    → IsLawful (picture_of input mode first es book)
-lawful_picture input mode first es lawful book booked =
-    (IsLawfulOver-in_memory (picture_of input mode first es book)).0
-    (lawful_over (in_memory input) mode first es lawful input book booked)
+-- over an input in memory, each piece of a lawful board has the top of the input's own chunks in its span
+pub IsLawful-in_memory : (input : List ℕ) (picture : Picture) → picture.input ≡ in_memory input → IsLawful picture
+    → HasTopsOf input picture
+IsLawful-in_memory input picture is lawful =
+    All-weaker (λ (p : Piece). IsNodeOf picture.input picture.mode picture.first p.span p.node)
+    (λ (p : Piece). p.node ≡ top_of input picture.mode picture.first p.span)
+    (λ p node. IsNodeOf-in_memory input picture.mode picture.first p.span p.node
+    (subst (λ (k : Known). IsNodeOf k picture.mode picture.first p.span p.node) is node)) picture.pieces lawful.nodes

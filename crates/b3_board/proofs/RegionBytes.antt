@@ -25,33 +25,33 @@ take_min n m xs =
           ∙ ap (λ (k : ℕ). take k xs) (omega arith)
     ]
 
-region_bytes : (place len : ℕ) (s : Span) (whole : List ℕ) → 1024 * s.first ≤ len
-    → part (take len (drop place whole)) s.first s.count
-    ≡ take (min (1024 * s.count) (len - 1024 * s.first)) (drop (place + 1024 * s.first) whole)
-region_bytes place len s whole low =
+region_bytes : (offset len : ℕ) (s : Span) (whole : List ℕ) → 1024 * s.first ≤ len
+    → part (take len (drop offset whole)) s.first s.count
+    ≡ take (min (1024 * s.count) (len - 1024 * s.first)) (drop (offset + 1024 * s.first) whole)
+region_bytes offset len s whole low =
     let a = 1024 * s.first in
     let n = 1024 * s.count in
     let sum : len ≡ a + (len - a) = omega arith in
-    ap (λ (k : ℕ). take n (drop a (take k (drop place whole)))) sum
-    ∙ ap (take n) (drop-take a (len - a) (drop place whole))
-    ∙ take_min n (len - a) (drop a (drop place whole))
-    ∙ ap (take (min n (len - a))) (drop-drop a place whole)
+    ap (λ (k : ℕ). take n (drop a (take k (drop offset whole)))) sum
+    ∙ ap (take n) (drop-take a (len - a) (drop offset whole))
+    ∙ take_min n (len - a) (drop a (drop offset whole))
+    ∙ ap (take (min n (len - a))) (drop-drop a offset whole)
 
 -- what was read for a span of a region is its part, where the source tells its bytes
-pub region_part : (told : Option (List ℕ)) (place len : ℕ) (s : Span) (bytes : List ℕ)
-    → ((whole : List ℕ) → told ≡ Some whole → place + len ≤ length whole)
+pub region_part : (told : Option (List ℕ)) (offset len : ℕ) (s : Span) (bytes : List ℕ)
+    → ((whole : List ℕ) → told ≡ Some whole → offset + len ≤ length whole)
     → 1024 * s.first ≤ len
     → ((whole : List ℕ) → told ≡ Some whole
-    → bytes ≡ take (min (1024 * s.count) (len - 1024 * s.first)) (drop (place + 1024 * s.first) whole))
-    → (all : List ℕ) → (region told place len).told ≡ Some all
+    → bytes ≡ take (min (1024 * s.count) (len - 1024 * s.first)) (drop (offset + 1024 * s.first) whole))
+    → (all : List ℕ) → (region told offset len).told ≡ Some all
     → (length all ≡ len) × (bytes ≡ part all s.first s.count)
-region_part None place len s bytes there low read all is = absurd (none_is all is)
-region_part (Some whole) place len s bytes there low read all is =
-    let same = some_is (take len (drop place whole)) all is in
+region_part None offset len s bytes there low read all is = absurd (none_is all is)
+region_part (Some whole) offset len s bytes there low read all is =
+    let same = some_is (take len (drop offset whole)) all is in
     let long = there whole (λ i. Some whole) in (
       ap length (sym same)
-          ∙ length-take-le len (drop place whole) (omega (arith, length-drop place whole)),
+          ∙ length-take-le len (drop offset whole) (omega (arith, length-drop offset whole)),
       read whole (λ i. Some whole)
-          ∙ sym (region_bytes place len s whole low)
+          ∙ sym (region_bytes offset len s whole low)
           ∙ ap (λ (xs : List ℕ). part xs s.first s.count) same,
     )

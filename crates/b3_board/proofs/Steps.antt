@@ -349,22 +349,6 @@ module _ (input : Known) (mode : Mode) (first : ℕ) (es : List Entry) (lawful :
       let ey = get_or-set_other es i y done nothing y_other in
       rw (ex, ey) (lawful.apart x y (rw⁻¹ ex x_kept) (rw⁻¹ ey y_kept))
 
--- ---- nothing is free
-
-pub settled : (n free : ℕ) (es : List Entry) → ApartBut n free es
-    → ((k : ℕ) → is_kept (at es k).state ≡ true
-    → AreChildEntries n (at es free) (at es k) ⊎ AreChildEntries n (at es k) (at es free) → ⊥)
-    → Apart n es
-settled n free es but alone i j i_kept j_kept kids =
-    elim (cases_eq i free) [
-      | inl i_same ↦ alone j j_kept (inl (subst (λ (x : ℕ). AreChildEntries n (at es x) (at es j)) i_same kids))
-      | inr i_other ↦
-          elim (cases_eq j free) [
-            | inl j_same ↦ alone i i_kept (inr (subst (λ (x : ℕ). AreChildEntries n (at es i) (at es x)) j_same kids))
-            | inr j_other ↦ but i j i_other j_other i_kept j_kept kids
-          ]
-    ]
-
 -- ---- what the code's join gives
 
 widened_is : (es : List Entry) (l r : ℕ) (node : Node) → l < length es

@@ -1,6 +1,6 @@
 -- The entries that a board keeps: one for each span of its cutting, whose places never change. Where two
 -- siblings are joined, the left one's entry takes the span of both, and the right one's is left empty.
-use Rattle.std.specs.Prelude.{◌≡◌, ◌≢◌, ℕ, ◌+◌, ◌<◌, ◌≤◌, nat_eq, Bool, true, false, List, map, length, sum_by, Option, Some, None, IsSome, slice_index_or, slice_set, filter_map}
+use Rattle.std.specs.Prelude.{◌≡◌, ◌≢◌, ℕ, ◌+◌, ◌<◌, ◌≤◌, nat_eq, Bool, true, false, List, map, length, sum_by, Option, Some, None, slice_index_or, slice_set, filter_map}
 use Rattle.b3_core.specs.Nodes.{chaining}
 use Rattle.b3_core.specs.Subtrees.{AreChildren}
 use Rattle.b3_core.specs.Tree.{chunks}
@@ -8,7 +8,7 @@ use Rattle.b3_core.specs.declared.modes.Mode.{Mode}
 use Rattle.b3_core.specs.declared.nodes.Node.{Node}
 use Rattle.b3_core.specs.declared.tree.Span.{Span}
 use Rattle.b3_board.specs.Pictures.{Piece}
-use Rattle.b3_board.specs.Spans.{IsNodeOf, IsSubtreeSpan, Known, has, in_memory}
+use Rattle.b3_board.specs.Spans.{IsNodeOf, IsSubtreeSpan, Known, has}
 use Rattle.b3_board.specs.declared.entries.Entry.{Entry}
 use Rattle.b3_board.specs.declared.entries.KeptNode.{KeptNode}
 use Rattle.b3_board.specs.declared.entries.State.{State}
@@ -172,21 +172,11 @@ fresh s = record { span = s; state = Open }
 abbrev pub NoneOpen : List Entry → Type 0
 NoneOpen es = (i : ℕ) → open_span (at es i) ≡ None
 
--- what a board over a source keeps: the entries are lawful, the chunks of the pieces add up to the book, no open span
--- has more chunks than the grain, and a span that could not be read shows that the source is not sure
-pub record KeepsSourceBoard (input : Known) (mode : Mode) (first grain : ℕ) (sure : Type 0)
-    (es : List Entry) (book : ℕ) (unread : Option Span) : Type 0 where
+-- what a board keeps: the entries are lawful, the chunks of the pieces add up to the book, no open span has more chunks
+-- than the grain, and a span whose bytes could not be had shows that they are not sure
+pub record KeepsBoard (input : Known) (mode : Mode) (first grain : ℕ) (sure : Type 0)
+    (es : List Entry) (book : ℕ) (missed : Bool) : Type 0 where
   pub lawful : Lawful input mode first es
   pub booked : sum_by kept_count es ≡ book
   pub few : (i : ℕ) → open_count (at es i) ≤ grain
-  pub missed : IsSome unread → ¬ sure
-
--- what the fields of a board over an input in memory keep: they are of the named input, mode and first chunk, the
--- entries are lawful, and the chunks of the pieces add up to the book
-pub record KeepsBoard (own_input : List ℕ) (own_mode : Mode) (own_first : ℕ)
-    (input : List ℕ) (mode : Mode) (first : ℕ) (es : List Entry) (book : ℕ) : Type 0 where
-  pub input_is : input ≡ own_input
-  pub mode_is : mode ≡ own_mode
-  pub first_is : first ≡ own_first
-  pub lawful : Lawful (in_memory input) mode first es
-  pub booked : sum_by kept_count es ≡ book
+  pub not_sure : missed ≡ true → ¬ sure

@@ -6,7 +6,7 @@ use Rattle.b3_core.specs.Tree.{chunks, top}
 use Rattle.b3_core.specs.declared.modes.Mode.{Mode}
 use Rattle.b3_core.specs.declared.nodes.Node.{Node}
 use Rattle.b3_core.specs.declared.tree.Span.{Span}
-use Rattle.b3_board.specs.Spans.{IsSubtreeSpan, chunks_in, part}
+use Rattle.b3_board.specs.Spans.{IsSubtreeSpan, Known, chunks_in, in_memory, part}
 
 -- a plan: an input, its mode, the number of its first chunk, and the spans that it is cut into
 pub record Outline : Type 0 where
@@ -31,8 +31,8 @@ pub record Hashed : Type 0 where
   pub node : Node
 
 -- the plan is of this input, mode and first chunk
-pub record IsPlanOf (input : List ℕ) (mode : Mode) (first : ℕ) (outline : Outline) : Type 0 where
-  pub input_is : outline.input ≡ input
+pub record IsPlanOf (input : Known) (mode : Mode) (first : ℕ) (outline : Outline) : Type 0 where
+  pub input_is : in_memory outline.input ≡ input
   pub mode_is : outline.mode ≡ mode
   pub first_is : outline.first ≡ first
 

@@ -8,7 +8,7 @@ use Rattle.b3_board.specs.Plans.{Outline}
 use Rattle.b3_board.specs.RootNodes.{RootNode}
 use Rattle.b3_board.specs.Seats.{BeginsWith, HasSeenAll, Indexes, IsSeatOf, Seated}
 use Rattle.b3_board.specs.Shares.{Holding}
-use Rattle.b3_board.specs.declared.ended.Hand.{Hand}
+use Rattle.b3_board.specs.declared.dealing.WorkerState.{WorkerState}
 
 -- the root of the plan's input, kept by a board
 abbrev pub kept_root : Outline → RootNode
@@ -39,26 +39,26 @@ abbrev pub HasEachOnce : ℕ → List ℕ → Type 0
 HasEachOnce n list = (i : ℕ) → times i list ≡ one_if (nat_lt i n)
 
 -- a worker of these claims who has claimed and deposited nothing
-pub record IsNewHand {L : Type 0} (claims : Indexes) (hand : Hand L) : Type 0 where
-  pub own : IsSeatOf claims hand.seat
-  pub claimed : hand.seat.view.claimed ≡ []
-  pub chunks : hand.share.chunks ≡ 0
+pub record IsNewState {L : Type 0} (claims : Indexes) (state : WorkerState L) : Type 0 where
+  pub own : IsSeatOf claims state.seat
+  pub claimed : state.seat.view.claimed ≡ []
+  pub chunks : state.share.chunks ≡ 0
 
 -- what a worker held, and what it holds once it went through all spans
-pub record HasRun {L : Type 0} (claims : Indexes) (spans : List Span) (old new : Hand L) : Type 0 where
+pub record HasRun {L : Type 0} (claims : Indexes) (spans : List Span) (old new : WorkerState L) : Type 0 where
   pub own : IsSeatOf claims new.seat
   pub worked : HasWorked spans (length spans) old.seat old.share new.seat new.share
 
 -- a worker of these claims who has seen every index, and whose share has no more chunks than the spans that its
 -- seat claimed
-pub record HasEnded {L : Type 0} (claims : Indexes) (spans : List Span) (hand : Hand L) : Type 0 where
-  pub own : IsSeatOf claims hand.seat
-  pub seen : HasSeenAll (length spans) hand.seat
-  pub chunks : hand.share.chunks ≤ claimed_chunks spans hand.seat.view.claimed
+pub record HasEnded {L : Type 0} (claims : Indexes) (spans : List Span) (state : WorkerState L) : Type 0 where
+  pub own : IsSeatOf claims state.seat
+  pub seen : HasSeenAll (length spans) state.seat
+  pub chunks : state.share.chunks ≤ claimed_chunks spans state.seat.view.claimed
 
 -- the parts of a worker's seat, and of its share
-abbrev pub seat_parts : {L : Type 0} → Hand L → ℕ
-seat_parts hand = hand.seat.view.parts
+abbrev pub seat_parts : {L : Type 0} → WorkerState L → ℕ
+seat_parts state = state.seat.view.parts
 
-abbrev pub share_parts : {L : Type 0} → Hand L → ℕ
-share_parts hand = hand.share.parts
+abbrev pub share_parts : {L : Type 0} → WorkerState L → ℕ
+share_parts state = state.share.parts

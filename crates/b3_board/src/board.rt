@@ -1,25 +1,27 @@
 // A board: what of an input's tree is open, and what was deposited.
 
-ghost use Rattle.std.specs.Prelude.{◌≡◌, ◌↔◌, ◌+◌, true, [], length, map, slice_get, Contains, Err, IfErr, IfOk, IfSome, IsOk, IsOkUnless, IsSome, IsTrue, OnErr, OnOk};
-ghost use Rattle.b3_core.specs.Tree.{top};
-ghost use Rattle.b3_board.specs.Pictures.{IsAscending, IsDeposit, IsLawful, IsOver, IsOwn, PiecesAreGreatest, opened, piece_spans, size};
-ghost use Rattle.b3_board.specs.Plans.{IsPlanOf};
+ghost use Rattle.std.specs.Prelude.{◌≡◌, ◌↔◌, ℕ, List, ◌+◌, ◌<◌, ◌≤◌, ◌^◌, true, [], All, length, map, slice_get, Contains, Err, Some, IfErr, IfNone, IfOk, IfSome, IsOk, IsOkUnless, IsSome, IsTrue, OnErr, OnOk};
+ghost use Rattle.b3_core.specs.Tree.{chunks, top};
+ghost use Rattle.b3_core.specs.declared.tree.Span.{Span};
+ghost use Rattle.b3_board.specs.Pictures.{HasTopsOf, IsAscending, IsDeposit, IsLawful, IsOver, IsOwn, PiecesAreGreatest, begun, opened, piece_spans, size};
+ghost use Rattle.b3_board.specs.Plans.{IsCutting, IsPlanOf};
+ghost use Rattle.b3_board.specs.Regions.{span_of};
 ghost use Rattle.b3_board.specs.Shares.{grown};
-ghost use Rattle.b3_board.specs.Spans.{chunks_in};
+ghost use Rattle.b3_board.specs.Spans.{IsRootOf, chunks_in, in_memory};
 ghost use Rattle.b3_board.specs.declared.board.Refused.TheVariants.{NotOpen, OtherBytes};
 ghost use Rattle.b3_board.specs.declared.fault.BoardFault.TheVariants.{Memory};
 
+use crate::backing::{Backing, InMemory, InSource, Unread};
 use crate::entries::{Entry, KeptNode, count_open, find_open, nth_open, nth_piece, opened};
 use crate::fault::BoardFault;
 use crate::jobs::Done;
-use crate::merging::{root_of, settle, settle_all};
+use crate::merging::{close_all, close_span, root_of};
+use crate::named::{Extent, Named, OwnDone};
 use crate::plan::Plan;
-use crate::planned::{OwnDone, Planned};
 use crate::root::Root;
 use crate::share::{Account, Share};
-use crate::tree::Tree;
 use b3_core::Span;
-use std::alloc::Global;
+use std::alloc::{AllocError, Global};
 use std::marker::Model;
 use std::sync::ledger::Blank;
 
@@ -33,39 +35,47 @@ pub enum Refused<'a> {
     OtherBytes(Done<'a>),
 }
 
-/// A board over the input that its type names.
+/// A board over the input that its type names, which lies in memory ([`MemoryBoard`]) or is read from a source
+/// ([`SourceBoard`]).
 ///
 /// Whatever value of it anyone holds, its open spans and its pieces are disjoint subtrees of the input's
 /// tree (BLAKE3 (2020), 2.1), each piece with the node that the standard defines, no two of them siblings,
 /// and their chunks add up to the whole.
 #[derive(Drop)]
-pub struct Board<'a, L: Planned> {
-    tree: Tree<'a>,
+pub struct Board<H: Backing, L: Named> {
+    backing: H,
+    extent: Extent<L>,
     entries: Vec<Entry>,
     account: Account<L>,
+    missed: bool,
 }
 
-impl<'a, L: Planned> Model for Board<'a, L> {
+impl<H: Backing, L: Named> Model for Board<H, L> {
     ghost use Rattle.b3_board.specs.Entries.{KeepsBoard, open_spans, pieces};
-    ghost use Rattle.std.specs.Prelude.{ℕ, List};
     ghost use Rattle.b3_board.specs.Pictures.{Picture};
 
-    ghost Value = { Picture (List ℕ) };
+    ghost Value = { Picture };
 
     ghost view = { λ board. record {
-      input = board.tree.input.now;
-      mode = board.tree.mode;
-      first = board.tree.first;
+      input = L.input;
+      mode = L.mode;
+      first = L.first;
       open_spans = open_spans board.entries.items;
       pieces = pieces board.entries.items;
       book = board.account.chunks;
     } };
 
-    ghost invariant = { λ board. KeepsBoard L.input L.mode L.first
-        board.tree.input.now board.tree.mode board.tree.first board.entries.items board.account.chunks };
+    ghost invariant = { λ board. KeepsBoard L.input L.mode L.first H.grain H.sure
+        board.entries.items board.account.chunks board.missed };
 }
 
-impl<'a, L: Planned> Board<'a, L> {
+/// A board over an input that lies in memory.
+pub type MemoryBoard<'a, L> = Board<InMemory<'a, L>, L>;
+
+/// A board over an input that is read from a source.
+pub type SourceBoard<L> = Board<InSource<L>, L>;
+
+impl<'a, L: Named> Board<InMemory<'a, L>, L> {
     /// The board of the plan, with all its spans open, and a share with all 128 parts and no chunks.
     ///
     /// It takes all its memory here.
@@ -73,7 +83,7 @@ impl<'a, L: Planned> Board<'a, L> {
         alloc: Global,
         plan: &Plan<'a>,
         blank: Blank,
-    ) -> Result<(Board<'a, L>, Share<L>), BoardFault>
+    ) -> Result<(MemoryBoard<'a, L>, Share<L>), BoardFault>
         requires name { blank.name ≡ L.name }
         requires parts { blank.parts ≡ L.parts }
         requires whole { L.parts ≡ 128 }
@@ -83,14 +93,10 @@ impl<'a, L: Planned> Board<'a, L> {
         ensures lawful { IfOk result (λ made. IsLawful made.0) }
         ensures only { IsOkUnless result Memory }
     {
-        let entries = opened(alloc, plan.spans.as_slice())?;
-        let (account, share) = Account::open(blank);
-        let board = Board {
-            tree: plan.tree,
-            entries,
-            account,
-        };
-        Ok((board, share))
+        let backing = InMemory::new(plan.tree);
+        let extent = Extent::new(plan.tree.input.len() as u64, plan.tree.mode);
+        let made = Board::open(alloc, backing, extent, plan.spans(), blank)?;
+        Ok(made)
     }
 
     /// Closes an open span with its node, and merges siblings as long as there are any.
@@ -106,11 +112,12 @@ impl<'a, L: Planned> Board<'a, L> {
         ensures unchanged { OnErr result (self.new ≡ self.old) }
         ensures share_unchanged { OnErr result (share.new ≡ share.old) }
         ensures lawful { IsLawful self.new }
+        ensures tops { (all : List ℕ) → self.new.input ≡ in_memory all → HasTopsOf all self.new }
     {
-        let Some(_place) = find_open(self.entries.as_slice(), done.span) else {
+        if !self.is_open(done.span) {
             return Err(Refused::NotOpen(done));
-        };
-        if !done.is_of(&self.tree) {
+        }
+        if !done.is_of(&self.backing.tree) {
             return Err(Refused::OtherBytes(done));
         }
         match self.deposit_own(OwnDone::of_done(done), share) {
@@ -119,10 +126,75 @@ impl<'a, L: Planned> Board<'a, L> {
         }
     }
 
-    /// The same for work of the board's own plan, which its type tells: no byte is compared.
-    ///
-    /// Refused where the span is not open; the work is handed back.
-    pub fn deposit_own(&mut self, own: OwnDone<L>, share: &mut Share<L>) -> Result<(), OwnDone<L>>
+    /// Hashes and closes every open span, and answers how many chunks these were.
+    pub fn sweep(&mut self, share: &mut Share<L>) -> u64
+        ensures waiting { result ≡ chunks_in self.old.open_spans }
+        ensures none_open { self.new.open_spans ≡ [] }
+        ensures book { self.new.book ≡ self.old.book + result }
+        ensures share { share.new ≡ grown share.old result }
+        ensures same_input { IsOver self.old.input self.old.mode self.old.first self.new }
+        ensures lawful { IsLawful self.new }
+        ensures tops { (all : List ℕ) → self.new.input ≡ in_memory all → HasTopsOf all self.new }
+    {
+        let count = close_all(self.entries.as_mut_slice(), &self.extent, &self.backing);
+        self.account.credit(share, count);
+        count
+    }
+
+    /// The input. Each piece has the top of its bytes in the piece's span.
+    pub fn input(&self) -> &'a [u8]
+        ensures input { self.now.input ≡ in_memory result.now }
+        ensures tops { HasTopsOf result.now self.now }
+    {
+        self.backing.tree.input
+    }
+
+    /// Whether the plan has the board's input, mode and first chunk.
+    pub fn is_over(&self, plan: &Plan<'a>) -> bool
+        ensures { IsTrue result ↔ IsPlanOf self.now.input self.now.mode self.now.first plan.now }
+    {
+        self.backing.tree.is_same(&plan.tree)
+    }
+}
+
+impl<H: Backing, L: Named> Board<H, L> {
+    // The board over the named input, cut into these spans, which are all open, and a share with all 128 parts and no
+    // chunks.
+    pub(crate) fn open(
+        alloc: Global,
+        backing: H,
+        extent: Extent<L>,
+        spans: &[Span],
+        blank: Blank,
+    ) -> Result<(Board<H, L>, Share<L>), AllocError>
+        requires name { blank.name ≡ L.name }
+        requires parts { blank.parts ≡ L.parts }
+        requires whole { L.parts ≡ 128 }
+        requires cutting { IsCutting (chunks L.input.len) spans.now }
+        requires few { All (λ span. span.count ≤ H.grain) spans.now }
+        ensures board { IfOk result (λ made. made.0 ≡ begun L.input L.mode L.first spans.now) }
+        ensures share { IfOk result (λ made. made.1 ≡ record { parts = 128; chunks = 0 }) }
+        ensures lawful { IfOk result (λ made. IsLawful made.0) }
+    {
+        let entries = opened(alloc, spans)?;
+        let (account, share) = Account::open(blank);
+        let board = Board {
+            backing,
+            extent,
+            entries,
+            account,
+            missed: false,
+        };
+        Ok((board, share))
+    }
+
+    // The same as `deposit` for work of what the board's type names: no byte is compared. Refused where the span is not
+    // open; the work is handed back.
+    pub(crate) fn deposit_own(
+        &mut self,
+        own: OwnDone<L>,
+        share: &mut Share<L>,
+    ) -> Result<(), OwnDone<L>>
         ensures ok { IsOk result ↔ Contains self.old.open_spans own.span }
         ensures handed_back { IfErr result (λ back. back ≡ own) }
         ensures step { OnOk result (IsDeposit self.old own.span self.new) }
@@ -141,22 +213,62 @@ impl<'a, L: Planned> Board<'a, L> {
             node,
             chaining_value,
         };
-        settle(self.entries.as_mut_slice(), &self.tree, place, kept);
+        close_span(self.entries.as_mut_slice(), &self.extent, place, kept);
         Ok(())
     }
 
-    /// Hashes and closes every open span, and answers how many chunks these were.
-    pub fn sweep(&mut self, share: &mut Share<L>) -> u64
-        ensures waiting { result ≡ chunks_in self.old.open_spans }
-        ensures none_open { self.new.open_spans ≡ [] }
-        ensures book { self.new.book ≡ self.old.book + result }
-        ensures share { share.new ≡ grown share.old result }
-        ensures same_input { IsOver self.old.input self.old.mode self.old.first self.new }
+    // Deposits what was made of a span, or keeps in mind that its bytes could not be had. A deposit that is refused
+    // changes nothing.
+    pub(crate) fn take_in(&mut self, made: Result<OwnDone<L>, Unread<H>>, share: &mut Share<L>)
+        ensures parts { share.new.parts ≡ share.old.parts }
+        ensures grown { share.new.chunks ≤ share.old.chunks + (span_of made).count }
         ensures lawful { IsLawful self.new }
     {
-        let count = settle_all(self.entries.as_mut_slice(), &self.tree);
-        self.account.credit(share, count);
-        count
+        match made {
+            Ok(own) => {
+                let _refused = self.deposit_own(own, share);
+            }
+            Err(unread) => self.mark_missed(unread),
+        }
+    }
+
+    // Keeps in mind that a span's bytes could not be had.
+    fn mark_missed(&mut self, _unread: Unread<H>)
+        ensures board { self.new ≡ self.old }
+        ensures lawful { IsLawful self.new }
+    {
+        self.missed = true;
+    }
+
+    // Whether a span's bytes could not be had.
+    pub(crate) fn has_missed(&self) -> bool
+        ensures { IsTrue result → ¬ H.sure }
+    {
+        self.missed
+    }
+
+    // Whether the span is an open one.
+    fn is_open(&self, span: Span) -> bool
+        ensures open { IsTrue result ↔ Contains self.now.open_spans span }
+        ensures inside { IsTrue result → span.first + span.count ≤ chunks L.input.len }
+        ensures some { IsTrue result → 0 < span.count }
+        ensures lawful { IsLawful self.now }
+    {
+        let Some(_place) = find_open(self.entries.as_slice(), span) else {
+            return false;
+        };
+        true
+    }
+
+    // The first open span.
+    pub(crate) fn next_open(&self) -> Option<Span>
+        ensures open { IfSome result (λ span. Contains self.now.open_spans span) }
+        ensures none { IfNone result (self.now.open_spans ≡ []) }
+        ensures inside { IfSome result (λ span. span.first + span.count ≤ chunks L.input.len) }
+        ensures some { IfSome result (λ span. 0 < span.count) }
+        ensures few { IfSome result (λ span. span.count ≤ H.grain) }
+    {
+        nth_open(self.entries.as_slice(), 0)
     }
 
     /// Changes nothing, and tells that a share of all 128 parts has all deposited chunks.
@@ -168,9 +280,7 @@ impl<'a, L: Planned> Board<'a, L> {
     {
         self.account.audit(share);
     }
-}
 
-impl<'a, L: Planned> Board<'a, L> {
     /// The number of open spans.
     pub fn open_spans(&self) -> usize
         ensures { result ≡ length self.now.open_spans }
@@ -210,26 +320,22 @@ impl<'a, L: Planned> Board<'a, L> {
         ensures open { result ≡ chunks_in self.now.open_spans }
         ensures all { self.now.book + result ≡ size self.now }
     {
-        self.tree.size() - self.account.chunks
+        self.extent.size() - self.account.chunks
     }
 
     /// The root, once no span is open. It hashes nothing.
     pub fn root(&self) -> Option<Root>
         ensures there { IsSome result ↔ (self.now.open_spans ≡ []) }
-        ensures root { IfSome result (λ root.
-            root ≡ record { node = top self.now.mode self.now.first self.now.input; kept = true }) }
+        ensures kept { IfSome result (λ root. root.kept ≡ true) }
+        ensures root { IfSome result (λ root. IsRootOf self.now.input self.now.mode self.now.first root.node) }
+        ensures told { IfSome result (λ root. (all : List ℕ) → self.now.input.told ≡ Some all
+            → root ≡ record { node = top self.now.mode self.now.first all; kept = true }) }
         ensures own { IsOver L.input L.mode L.first self.now }
+        ensures lawful { IsLawful self.now }
     {
-        let Some(node) = root_of(self.entries.as_slice(), &self.tree) else {
+        let Some(node) = root_of(self.entries.as_slice(), &self.extent) else {
             return None;
         };
         Some(Root::of_board(node))
-    }
-
-    /// Whether the plan has the board's input, mode and first chunk.
-    pub fn is_over(&self, plan: &Plan<'a>) -> bool
-        ensures { IsTrue result ↔ IsPlanOf self.now.input self.now.mode self.now.first plan.now }
-    {
-        self.tree.is_same(&plan.tree)
     }
 }

@@ -13,6 +13,8 @@ const MAX_GRAIN: u64 = 1 << 20;
 
 pub(crate) const MAX_SPANS: u64 = 1024;
 
+pub(crate) const MAX_INPUT: usize = 1 << 30;
+
 /// The smallest power of two of at least 16 that cuts `n` chunks into at most 1,024 spans.
 pub fn default_grain(n: u64) -> u64
     requires some { 1 ≤ n }

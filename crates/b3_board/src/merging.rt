@@ -5,13 +5,13 @@ ghost use Rattle.b3_core.specs.Nodes.{chaining};
 ghost use Rattle.b3_core.specs.Subtrees.{AreSiblings, IsSubtree};
 ghost use Rattle.b3_core.specs.Tree.{chunks, parent_node};
 ghost use Rattle.b3_board.specs.Entries.{ApartBut, IsInOrder, IsJoined, Lawful, NoneOpen, Sound, at, is_kept, joined, kept_chunk, kept_count, open_count, open_span};
-ghost use Rattle.b3_board.specs.Spans.{IsNodeOf, IsRootOf, has, in_memory};
+ghost use Rattle.b3_board.specs.Spans.{IsNodeOf, IsRootOf, has};
 ghost use Rattle.b3_board.specs.declared.entries.KeptNode.{KeptNode};
 ghost use Rattle.b3_board.specs.declared.entries.State.TheVariants.{Kept, Open};
 
+use crate::backing::InMemory;
 use crate::entries::{Entry, KeptNode, State, find};
-use crate::ground::Ground;
-use crate::tree::Tree;
+use crate::named::{Extent, Named};
 use b3_core::{Mode, Node, Span, parent_node, sibling};
 
 // The place of the piece that is the sibling of the one at `here`.
@@ -92,20 +92,25 @@ fn join_two(entries: &mut [Entry], mode: &Mode, left: usize, right: usize)
 }
 
 // Joins the piece at `here` and its sibling, and answers where the joined piece is.
-fn join_siblings<T: Ground>(entries: &mut [Entry], ground: &T, here: usize, other: usize) -> usize
+fn join_siblings<L: Named>(
+    entries: &mut [Entry],
+    extent: &Extent<L>,
+    here: usize,
+    other: usize,
+) -> usize
     requires inside { here < length entries.old }
     requires other_inside { other < length entries.old }
     requires kept { is_kept (at entries.old here).state ≡ true }
     requires other_kept { is_kept (at entries.old other).state ≡ true }
-    requires siblings { AreSiblings (chunks (T.known ground.now).len)
+    requires siblings { AreSiblings (chunks L.input.len)
         (at entries.old here).span (at entries.old other).span }
-    requires sound { Sound (T.known ground.now) (T.mode ground.now) (T.first ground.now) entries.old }
-    requires apart { ApartBut (chunks (T.known ground.now).len) here entries.old }
-    requires few { chunks (T.known ground.now).len ≤ 2 ^ 54 }
-    ensures { IsJoined (T.known ground.now) (T.mode ground.now) (T.first ground.now)
+    requires sound { Sound L.input L.mode L.first entries.old }
+    requires apart { ApartBut (chunks L.input.len) here entries.old }
+    requires few { chunks L.input.len ≤ 2 ^ 54 }
+    ensures { IsJoined L.input L.mode L.first
         entries.old here entries.new result }
 {
-    let mode = ground.tree_mode();
+    let mode = extent.mode();
     if other < here {
         join_two(entries, mode, other, here);
         other
@@ -116,45 +121,54 @@ fn join_siblings<T: Ground>(entries: &mut [Entry], ground: &T, here: usize, othe
 }
 
 // Joins the piece at `from` with its sibling, and what comes of it with its own, as long as there is one.
-fn merge_up<T: Ground>(entries: &mut [Entry], ground: &T, from: usize)
+fn merge_up<L: Named>(entries: &mut [Entry], extent: &Extent<L>, from: usize)
     requires inside { from < length entries.old }
     requires kept { is_kept (at entries.old from).state ≡ true }
-    requires sound { Sound (T.known ground.now) (T.mode ground.now) (T.first ground.now) entries.old }
-    requires apart { ApartBut (chunks (T.known ground.now).len) from entries.old }
-    ensures lawful { Lawful (T.known ground.now) (T.mode ground.now) (T.first ground.now) entries.new }
+    requires sound { Sound L.input L.mode L.first entries.old }
+    requires apart { ApartBut (chunks L.input.len) from entries.old }
+    ensures lawful { Lawful L.input L.mode L.first entries.new }
     ensures same_chunks { (k : ℕ) → sum_by (kept_chunk k) entries.new ≡ sum_by (kept_chunk k) entries.old }
     ensures same_count { sum_by kept_count entries.new ≡ sum_by kept_count entries.old }
     ensures same_open { map open_span entries.new ≡ map open_span entries.old }
 {
-    let n = ground.chunk_count();
+    let n = extent.size();
     let mut here = from;
     while let Some(other) = partner(entries, n, here) {
-        here = join_siblings(entries, ground, here, other);
+        here = join_siblings(entries, extent, here, other);
     }
 }
 
 // Closes the open span at `place` with its node, and joins siblings as long as there are any.
-pub(crate) fn settle<T: Ground>(entries: &mut [Entry], ground: &T, place: usize, kept: KeptNode)
+pub(crate) fn close_span<L: Named>(
+    entries: &mut [Entry],
+    extent: &Extent<L>,
+    place: usize,
+    kept: KeptNode,
+)
     requires inside { place < length entries.old }
     requires open { (at entries.old place).state ≡ Open }
-    requires top { IsNodeOf (T.known ground.now) (T.mode ground.now) (T.first ground.now)
+    requires top { IsNodeOf L.input L.mode L.first
         (at entries.old place).span kept.node }
     requires chaining { kept.chaining_value ≡ chaining kept.node }
-    requires lawful { Lawful (T.known ground.now) (T.mode ground.now) (T.first ground.now) entries.old }
-    ensures lawful { Lawful (T.known ground.now) (T.mode ground.now) (T.first ground.now) entries.new }
+    requires lawful { Lawful L.input L.mode L.first entries.old }
+    ensures lawful { Lawful L.input L.mode L.first entries.new }
     ensures chunks { (k : ℕ) → sum_by (kept_chunk k) entries.new ≡ sum_by (kept_chunk k) entries.old
         + has k (at entries.old place).span.first (at entries.old place).span.count }
     ensures count { sum_by kept_count entries.new ≡ sum_by kept_count entries.old + (at entries.old place).span.count }
     ensures opens { map open_span entries.new ≡ slice_set (map open_span entries.old) place None }
 {
     entries[place].state = State::Kept(kept);
-    merge_up(entries, ground, place);
+    merge_up(entries, extent, place);
 }
 
 // Hashes and closes every open span, and answers how many chunks these were.
-pub(crate) fn settle_all(entries: &mut [Entry], tree: &Tree) -> u64
-    requires lawful { Lawful (in_memory tree.now.input.now) tree.now.mode tree.now.first entries.old }
-    ensures lawful { Lawful (in_memory tree.now.input.now) tree.now.mode tree.now.first entries.new }
+pub(crate) fn close_all<L: Named>(
+    entries: &mut [Entry],
+    extent: &Extent<L>,
+    backing: &InMemory<'_, L>,
+) -> u64
+    requires lawful { Lawful L.input L.mode L.first entries.old }
+    ensures lawful { Lawful L.input L.mode L.first entries.new }
     ensures len { length entries.new ≡ length entries.old }
     ensures none { NoneOpen entries.new }
     ensures count { sum_by kept_count entries.new ≡ sum_by kept_count entries.old + result }
@@ -162,16 +176,21 @@ pub(crate) fn settle_all(entries: &mut [Entry], tree: &Tree) -> u64
 {
     let mut count = 0;
     'spans: for place in 0..entries.len() {
-        count += settle_if_open(entries, tree, place);
+        count += close_if_open(entries, extent, backing, place);
     }
     count
 }
 
 // Hashes and closes the span at `place` where it is open, and answers how many chunks were closed.
-fn settle_if_open(entries: &mut [Entry], tree: &Tree, place: usize) -> u64
+fn close_if_open<L: Named>(
+    entries: &mut [Entry],
+    extent: &Extent<L>,
+    backing: &InMemory<'_, L>,
+    place: usize,
+) -> u64
     requires inside { place < length entries.old }
-    requires lawful { Lawful (in_memory tree.now.input.now) tree.now.mode tree.now.first entries.old }
-    ensures lawful { Lawful (in_memory tree.now.input.now) tree.now.mode tree.now.first entries.new }
+    requires lawful { Lawful L.input L.mode L.first entries.old }
+    ensures lawful { Lawful L.input L.mode L.first entries.new }
     ensures closed { open_span (at entries.new place) ≡ None }
     ensures others { (i : ℕ) → open_span (at entries.old i) ≡ None → open_span (at entries.new i) ≡ None }
     ensures len { length entries.new ≡ length entries.old }
@@ -180,13 +199,13 @@ fn settle_if_open(entries: &mut [Entry], tree: &Tree, place: usize) -> u64
     let span = entries[place].span;
     match entries[place].state {
         State::Open => {
-            let node = tree.top_of(span);
+            let node = backing.tree.top_of(span);
             let chaining_value = node.chaining();
             let kept = KeptNode {
                 node,
                 chaining_value,
             };
-            settle(entries, tree, place, kept);
+            close_span(entries, extent, place, kept);
             span.count
         }
         _ => 0,
@@ -194,12 +213,12 @@ fn settle_if_open(entries: &mut [Entry], tree: &Tree, place: usize) -> u64
 }
 
 // The node of the root, where nothing is open.
-pub(crate) fn root_of<T: Ground>(entries: &[Entry], ground: &T) -> Option<Node>
-    requires { Lawful (T.known ground.now) (T.mode ground.now) (T.first ground.now) entries.now }
+pub(crate) fn root_of<L: Named>(entries: &[Entry], extent: &Extent<L>) -> Option<Node>
+    requires { Lawful L.input L.mode L.first entries.now }
     ensures there { IsSome result ↔ NoneOpen entries.now }
-    ensures top { IfSome result (λ node. IsRootOf (T.known ground.now) (T.mode ground.now) (T.first ground.now) node) }
+    ensures top { IfSome result (λ node. IsRootOf L.input L.mode L.first node) }
 {
-    if entries.is_empty() || entries[0].span.count != ground.chunk_count() {
+    if entries.is_empty() || entries[0].span.count != extent.size() {
         return None;
     }
     match entries[0].state {

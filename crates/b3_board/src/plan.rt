@@ -9,17 +9,15 @@ ghost use Rattle.b3_board.specs.Spans.{chunks_in};
 ghost use Rattle.b3_board.specs.declared.fault.BoardFault.{BoardFault};
 ghost use Rattle.b3_board.specs.declared.fault.BoardFault.TheVariants.{Memory};
 
-use crate::cutting::{MAX_SPANS, grain_spans, is_cutting, is_grain};
+use crate::cutting::{MAX_INPUT, MAX_SPANS, grain_spans, is_cutting, is_grain};
 use crate::fault::BoardFault;
 use crate::jobs::Job;
-use crate::planned::{OwnJob, Planned};
+use crate::named::{Named, OwnDone};
 use crate::root::Root;
 use crate::tree::Tree;
 use b3_core::{Mode, Span, chunks};
 use std::alloc::Global;
-use std::marker::{Model, PhantomData};
-
-pub(crate) const MAX_INPUT: usize = 1 << 30;
+use std::marker::Model;
 
 /// An input with a mode, cut into at most 1,024 spans of chunks, each a subtree (BLAKE3 (2020), 2.1).
 ///
@@ -173,16 +171,13 @@ impl<'a> Plan<'a> {
 
     // The spans.
     pub(crate) fn spans(&self) -> &[Span]
-        ensures { result.now ≡ self.now.spans }
+        ensures spans { result.now ≡ self.now.spans }
+        ensures cutting { IsCutting (chunks (length self.now.input)) self.now.spans }
+        ensures some { 0 < length self.now.spans }
+        ensures few { length self.now.spans ≤ 1024 }
+        ensures small { chunks_in self.now.spans ≤ 2 ^ 20 }
     {
         self.spans.as_slice()
-    }
-
-    // The number of chunks.
-    pub(crate) fn size(&self) -> u64
-        ensures { result ≡ chunks (length self.now.input) }
-    {
-        self.tree.size()
     }
 
     /// Span `i`, or none where the plan has no more than `i` spans.
@@ -209,17 +204,15 @@ impl<'a> Plan<'a> {
         }
     }
 
-    /// The same job, for a board over the named input, which is this plan's.
-    pub fn own_job<L: Planned>(&self, i: usize) -> Option<OwnJob<'a, L>>
-        requires { IsPlanOf L.input L.mode L.first self.now }
-        ensures { result ≡ slice_get self.now.spans i }
+    // Hashes a span, for a board over the named input, which is this plan's.
+    pub(crate) fn hash_span<L: Named>(&self, span: Span) -> OwnDone<L>
+        requires own { IsPlanOf L.input L.mode L.first self.now }
+        requires inside { span.first + span.count ≤ chunks L.input.len }
+        requires some { 0 < span.count }
+        ensures { result.span ≡ span }
     {
-        let spans = self.spans.as_slice();
-        if i < spans.len() {
-            Some(OwnJob::new(self.tree, spans[i]))
-        } else {
-            None
-        }
+        let bytes = self.tree.part(span);
+        OwnDone::of_bytes(bytes, &self.tree.mode, self.tree.first, span)
     }
 
     /// The root of the plan's input, hashed by this call.

@@ -2,9 +2,8 @@
 
 ghost use Rattle.std.specs.Prelude.{◌≡◌, ℕ, ◌+◌, ◌*◌, ◌<◌, ◌≤◌, ◌^◌, IsTrue, ◌↔◌, length};
 ghost use Rattle.b3_core.specs.Tree.{chunks, top};
-ghost use Rattle.b3_board.specs.Spans.{in_memory, part, top_of};
+ghost use Rattle.b3_board.specs.Spans.{part, top_of};
 
-use crate::ground::Ground;
 use b3_core::{CHUNK_LEN, Mode, Node, Span, chunks, top};
 
 // An input with its mode and the number of its first chunk.
@@ -68,21 +67,5 @@ impl<'a> Tree<'a> {
             × (self.now.first ≡ other.now.first)) }
     {
         self.first == other.first && self.mode == other.mode && self.input == other.input
-    }
-}
-
-impl<'a> Ground for Tree<'a> {
-    ghost known = { λ tree. in_memory tree.input.now };
-
-    ghost mode = { λ tree. tree.mode };
-
-    ghost first = { λ tree. tree.first };
-
-    fn chunk_count(&self) -> u64 {
-        self.size()
-    }
-
-    fn tree_mode(&self) -> &Mode {
-        &self.mode
     }
 }

@@ -13,7 +13,7 @@ use Rattle.b3_check.specs.declared.options.CheckOptions.{CheckOptions}
 use Rattle.b3_check.specs.declared.options.Limits.{Limits}
 use Rattle.b3_check.specs.declared.tally.Tally.{Tally}
 use Rattle.b3_check.specs.Checks.{Entry, decoded, entry_of, line_script, line_scripts, list_script, lists_script, verdict_on, verdict_report}
-use Rattle.b3_check.specs.Digests.{line_output}
+use Rattle.b3_check.specs.Digests.{line_range}
 use Rattle.b3_check.specs.Reading.{Answered}
 use Rattle.b3_check.specs.Runs.{Broke, Ran, Runs, Scene, Stopped, Went}
 use Rattle.b3_check.specs.Scripts.{Answer, Kind, Report, Script, followed_by, in_turn, then_counted}
@@ -28,13 +28,13 @@ use Rattle.b3_check.proofs.ScriptLemmas.{in_turn-append, in_turn-more, none-tall
 
 -- the tasks of lines have their scripts
 task_script-line : (options : CheckOptions) (list : List ℕ) (number : ℕ) (line : List ℕ) (refusal : Option LineFault)
-    → task_script line_output (line_task options list number line refusal)
+    → task_script line_range (line_task options list number line refusal)
     ≡ line_script options list number line refusal
 task_script-line options list number line (Some fault) = refl
 task_script-line options list number line None = refl
 
 pub tasks_script-lines : (options : CheckOptions) (list : List ℕ) (number : ℕ) (lines : List (List ℕ))
-    → tasks_script line_output (line_tasks options list number lines) ≡ in_turn (line_scripts options list number lines)
+    → tasks_script line_range (line_tasks options list number lines) ≡ in_turn (line_scripts options list number lines)
 tasks_script-lines options list number [] = refl
 tasks_script-lines options list number (line ∷ lines) = λ i.
     followed_by (task_script-line options list number line (first_refusal line) i)

@@ -12,11 +12,9 @@ pub mod OwingLemmas
 pub mod TaskLemmas
 -- What is read of a file: so far, to its end, and of a name.
 pub mod ReadLemmas
--- Windows: what is filled of one, and what the windows so far leave.
-pub mod WindowLemmas
 -- Runs over lists of check lines.
 pub mod CheckLemmas
--- what is known of items before the run comes to them
-mod AheadLemmas
--- Pieces of a content: what the next piece adds to those before it.
-pub mod PieceLemmas
+-- What is known of items before the run comes to them.
+mod PrefetchLemmas
+-- Parts of a content that is read at offsets: what the next region adds to those before it.
+pub mod PartLemmas

@@ -1,22 +1,20 @@
 -- Runs of which lines are still to be written.
-use Rattle.std.proofs.Common.{◌≡◌, ◌⊎◌, ℕ, List, [], ◌∷◌, ◌++◌, Option, refl, sym, ◌∙◌, ap, subst, append_assoc}
+use Rattle.std.proofs.Common.{◌≡◌, ◌⊎◌, ℕ, List, [], ◌++◌, Option, refl, sym, ◌∙◌, ap, subst, append_assoc}
 use Rattle.std.proofs.lemmas.List.{append-nil}
 use Rattle.b3_check.specs.declared.options.Limits.{Limits}
-use Rattle.b3_check.specs.declared.hashing.Output.{Output}
-use Rattle.b3_check.specs.declared.said.Said.{Said}
+use Rattle.b3_check.specs.declared.message.Message.{Message}
 use Rattle.b3_check.specs.declared.tally.Tally.{Tally}
 use Rattle.b3_check.specs.declared.fault.RunFault.{RunFault}
 use Rattle.b3_check.specs.declared.fault.RunFault.TheVariants.{ReadFault, WriteFault, Memory, BadKey, EndlessInput}
 use Rattle.b3_check.specs.Contents.{Contents}
-use Rattle.b3_check.specs.Digests.{digest_of, digest_script}
 use Rattle.b3_check.specs.Owing.{RanOwing, WentOwing, on_out, with_out}
 use Rattle.b3_check.specs.Runs.{Broke, GainsPart, IsCausedBy, Ran, Scene, Stopped, Went}
-use Rattle.b3_check.specs.Scripts.{Answer, Given, Report, Script, AnswersFirst, followed_by, joined, nothing, report}
+use Rattle.b3_check.specs.Scripts.{Answer, Report, Script, AnswersFirst, followed_by, joined, report}
 use Rattle.b3_check.specs.Scripts.Script.{Done, Say}
 use Rattle.b3_check.specs.Tallies.{no_tally, tally_sum}
-use Rattle.b3_check.specs.Tasks.{Gave, report_of}
+use Rattle.b3_check.specs.Tasks.{Found, report_of}
 use Rattle.b3_check.proofs.RunLemmas.{caused_anywhere, caused_later, no_part, went_nowhere, went_then, went_then_broke}
-use Rattle.b3_check.proofs.ScriptLemmas.{AnswersFirst-append, IsComplete-append, followed_by-counted, joined-nothing, nothing-joined, report-append}
+use Rattle.b3_check.proofs.ScriptLemmas.{AnswersFirst-append, IsComplete-append, followed_by-counted, nothing-joined, report-append}
 
 -- ---- runs of one step
 
@@ -29,67 +27,39 @@ owing_done a = record {
   counted = refl;
 }
 
--- a report is said
-pub owing_said : {a b : Scene} {u v : List ℕ} {m : Tally} (p : Report) → WentOwing a b u v [] p → m ≡ p.tally
-    → RanOwing (Say p Done) a b u v m
-owing_said {a} {b} {u} {v} {m} p went counted =
-    let P : Report → Type 0 = λ q. WentOwing a b u v [] q in
+-- what a script gives is found, and said
+pub owing_found : {script : Script} {a b c : Scene} {u v : List ℕ} {message : Message}
+    → Found script a b message → WentOwing b c u v [] (report_of message) → RanOwing script a c u v message.tally
+owing_found {script} {a} {b} {c} {u} {v} {message} found went =
+    let said = with_out went.written (report_of message) in
+    let both : Went a c (found.answers ++ []) said =
+    subst (λ q. Went a c (found.answers ++ []) q) (nothing-joined said) (went_then found.went went.went) in
     record {
-      answers = [];
-      agree = tt;
-      complete = tt;
-      went = subst P (sym (joined-nothing p)) went;
-      counted = counted ∙ ap (λ q. q.tally) (sym (joined-nothing p));
+      answers = found.answers;
+      agree = found.agree;
+      complete = found.complete;
+      went = subst (λ q. WentOwing a c u v found.answers q) found.is (record {
+        written = went.written;
+        text = went.text;
+        went = subst (λ xs. Went a c xs said) (append-nil found.answers) both;
+      });
+      counted = ap (λ q. q.tally) found.is;
     }
 
 -- a sink fails in the saying
-pub stopped_told : {limits : Limits} {a b : Scene} {u : List ℕ} {fault : RunFault} (p : Report)
-    → Broke a b [] (joined (on_out u) p) fault → (fault ≡ WriteFault) ⊎ (fault ≡ Memory)
-    → Stopped limits (Say (on_out u) (Say p Done)) a b fault
-stopped_told {limits} {a} {b} {u} {fault} p broke known = record {
-  answers = [];
-  agree = tt;
-  broke = subst (λ q. Broke a b [] (joined (on_out u) q) fault) (sym (joined-nothing p)) broke;
-  cause = caused_anywhere _ limits _ _ fault known;
-}
-
--- a name is answered, and what its digest gives is said
-pub owing_found : {a b c : Scene} {u v : List ℕ} {m : Tally} {output : Output} {name : List ℕ} {said : Said}
-    (says : Given (List ℕ) → Report)
-    → Gave output name says a b said → WentOwing b c u v [] (report_of said) → m ≡ said.tally
-    → RanOwing (digest_script output name says) a c u v m
-owing_found {a} {b} {c} {u} {v} {m} {output} {name} {said} says gave went is =
-    let p = says (digest_of output gave.answer) in
-    let same : p ≡ joined p nothing = sym (joined-nothing p) in
-    let both : Went a c (gave.answer ∷ []) (with_out went.written (report_of said)) =
-    subst (λ q. Went a c (gave.answer ∷ []) q) (nothing-joined (with_out went.written (report_of said)))
-    (went_then gave.answered.went went.went) in
-    let whole : WentOwing a c u v (gave.answer ∷ []) (report_of said) =
-    record { written = went.written; text = went.text; went = both } in
+pub stopped_found : {limits : Limits} {script : Script} {a b c : Scene} {u : List ℕ} {fault : RunFault}
+    {message : Message}
+    → Found script a b message → Broke b c [] (joined (on_out u) (report_of message)) fault
+    → (fault ≡ WriteFault) ⊎ (fault ≡ Memory) → Stopped limits (Say (on_out u) script) a c fault
+stopped_found {limits} {script} {a} {b} {c} {u} {fault} {message} found broke known =
+    let said = joined (on_out u) (report_of message) in
+    let both : Broke a c (found.answers ++ []) said fault =
+    subst (λ q. Broke a c (found.answers ++ []) q fault) (nothing-joined said) (went_then_broke found.went broke) in
     record {
-      answers = gave.answer ∷ [];
-      agree = (gave.answered.agrees, tt);
-      complete = tt;
-      went = subst (λ q. WentOwing a c u v (gave.answer ∷ []) q) (gave.is ∙ same) whole;
-      counted = is ∙ ap (λ q. q.tally) (gave.is ∙ same);
-    }
-
--- a sink fails in that saying
-pub stopped_found : {limits : Limits} {a b c : Scene} {u : List ℕ} {fault : RunFault} {output : Output} {name : List ℕ}
-    {said : Said} (says : Given (List ℕ) → Report)
-    → Gave output name says a b said → Broke b c [] (joined (on_out u) (report_of said)) fault
-    → (fault ≡ WriteFault) ⊎ (fault ≡ Memory)
-    → Stopped limits (Say (on_out u) (digest_script output name says)) a c fault
-stopped_found {limits} {a} {b} {c} {u} {fault} {output} {name} {said} says gave broke known =
-    let p = says (digest_of output gave.answer) in
-    let both : Broke a c (gave.answer ∷ []) (joined (on_out u) (report_of said)) fault =
-    subst (λ q. Broke a c (gave.answer ∷ []) q fault) (nothing-joined (joined (on_out u) (report_of said)))
-    (went_then_broke gave.answered.went broke) in
-    record {
-      answers = gave.answer ∷ [];
-      agree = (gave.answered.agrees, tt);
-      broke = subst (λ q. Broke a c (gave.answer ∷ []) (joined (on_out u) q) fault)
-          (gave.is ∙ sym (joined-nothing p)) both;
+      answers = found.answers;
+      agree = found.agree;
+      broke = subst (λ q. Broke a c found.answers (joined (on_out u) q) fault) found.is
+          (subst (λ xs. Broke a c xs said fault) (append-nil found.answers) both);
       cause = caused_anywhere _ limits _ _ fault known;
     }
 

@@ -2,52 +2,77 @@
 use Rattle.std.proofs.Common.{◌≡◌, ◌⊎◌, ℕ, ◌+◌, ◌<◌, ◌≤◌, Bool, false, IsSome, List, [], ◌++◌, length, take, Option, None, Some, Ok, Err, refl, sym, ◌∙◌, ap, subst, inl, inr, append_assoc, length-append, arith}
 use Rattle.std.specs.Prelude.{IsSomeAnd}
 use Rattle.std.proofs.Math.Seq.{take-append-add}
+use Rattle.std.proofs.lemmas.Bool.{cases_lt}
 use Rattle.std.proofs.lemmas.List.{append-nil, length-take-le, take-append-le, take_all}
 use Rattle.b3_core.specs.Output.{blake3}
 use Rattle.b3_core.specs.Tree.{top}
 use Rattle.b3_hash.specs.Readers.{Reader}
 use Rattle.b3_check.specs.declared.fault.RunFault.{RunFault}
 use Rattle.b3_check.specs.declared.fault.RunFault.TheVariants.{ReadFault, WriteFault, Memory, BadKey, EndlessInput}
-use Rattle.b3_check.specs.declared.hashing.Output.{Output}
+use Rattle.b3_check.specs.declared.output_range.OutputRange.{OutputRange}
 use Rattle.b3_check.specs.declared.options.Limits.{Limits}
 use Rattle.b3_check.specs.declared.shelf.NoContent.{NoContent}
 use Rattle.b3_check.specs.declared.shelf.NoContent.TheVariants.{Missing, CannotRead}
-use Rattle.b3_check.specs.Contents.{Contents, ContentHas, Gives, HasContent, LacksContent}
-use Rattle.b3_check.specs.Reading.{IsDigestOf, IsFaultOfRest, IsOutputOf, IsReadingFault, only_rest}
+use Rattle.b3_check.specs.Contents.{Contents, ContentHas, HasContent, LacksContent}
+use Rattle.b3_check.specs.Reading.{IsDigestOf, IsFilled, IsOutputOf, IsReadingFault, only_rest}
 use Rattle.b3_check.specs.Scripts.{AgreesWith, Kind, answer_of}
 use Rattle.b3_check.specs.Scripts.Kind.{Hashed, Listed, Key}
 
 -- ---- the rest of a file
 
--- the first bytes of the rest are read, by so many reads that gave bytes
-pub record ReadSoFar (told : Option Contents) (all left content : List ℕ) (turn : ℕ) : Type 0 where
+-- the first bytes of the rest are read, by so many reads that gave bytes; so many are left
+pub record ReadSoFar (told : Option Contents) (all left content : List ℕ) (turns still : ℕ) : Type 0 where
   pub parts : IsSome told → all ≡ content ++ left
-  pub many : turn ≤ length content
+  pub many : turns ≤ still + length content
 
-pub read_none : (told : Option Contents) (all : List ℕ) → ReadSoFar told all all [] 0
-read_none told all = record { parts = λ _. refl; many = omega arith }
+pub read_none : (told : Option Contents) (all : List ℕ) (turns : ℕ) → ReadSoFar told all all [] turns turns
+read_none told all turns = record { parts = λ _. refl; many = omega arith }
 
--- one more read gives bytes
-pub read_more : {told : Option Contents} {all left content : List ℕ} {turn : ℕ} (given rest : List ℕ)
-    → ReadSoFar told all left content turn
-    → (IsSome told → Gives left given rest) → 0 < length given → ReadSoFar told all rest (content ++ given) (turn + 1)
-read_more {told} {all} {left} {content} {turn} given rest so_far gives some = record {
-  parts = λ is. so_far.parts is ∙ ap (λ bytes. content ++ bytes) (gives is).parts
-      ∙ sym (append_assoc content given rest);
-  many = omega (arith, length-append content given, so_far.many);
+-- one more buffer is full
+pub read_more : {told : Option Contents} {all left content : List ℕ} {turns still : ℕ} {rest buffer : List ℕ}
+    {after n : ℕ}
+    → ReadSoFar told all left content turns still → IsFilled told left rest buffer still after n → length buffer ≤ n
+    → ReadSoFar told all rest (content ++ take n buffer) turns after
+read_more {told} {all} {left} {content} {turns} {still} {rest} {buffer} {after} {n} so_far filled full = record {
+  parts = λ is. so_far.parts is ∙ ap (λ bytes. content ++ bytes) (filled.bytes is)
+      ∙ sym (append_assoc content (take n buffer) rest);
+  many = omega (
+    arith,
+    length-append content (take n buffer),
+    length-take-le n buffer filled.within,
+    so_far.many,
+    filled.many (omega (arith, full, filled.within)),
+  );
 }
 
--- one more read gives none
-pub read_all : {told : Option Contents} {all left content : List ℕ} {turn : ℕ} (given rest : List ℕ)
-    → ReadSoFar told all left content turn
-    → (IsSome told → Gives left given rest) → given ≡ [] → IsSome told → all ≡ content
-read_all {told} {all} {left} {content} {turn} given rest so_far gives none is =
-    so_far.parts is ∙ ap (λ bytes. content ++ bytes) ((gives is).end none) ∙ append-nil content
+-- the last buffer has all that was left
+pub read_all : {told : Option Contents} {all left content : List ℕ} {turns still : ℕ} {rest buffer : List ℕ}
+    {after n : ℕ}
+    → ReadSoFar told all left content turns still → IsFilled told left rest buffer still after n → n < length buffer
+    → IsSome told → all ≡ content ++ take n buffer
+read_all {told} {all} {left} {content} {turns} {still} {rest} {buffer} {after} {n} so_far filled short is =
+    so_far.parts is
+    ∙ ap (λ bytes. content ++ bytes) (filled.bytes is ∙ ap (λ bytes. take n buffer ++ bytes) (filled.end short is)
+    ∙ append-nil (take n buffer))
+
+-- no read is left
+pub read_endless : {told : Option Contents} {all left content : List ℕ} {turns still : ℕ}
+    → ReadSoFar told all left content turns still → (IsSome told → still ≤ length left)
+    → IsSome told → turns ≤ length all
+read_endless {told} {all} {left} {content} {turns} {still} so_far endless is =
+    omega (
+      arith,
+      ap (λ (xs : List ℕ). length xs) (so_far.parts is),
+      length-append content left,
+      endless is,
+      so_far.many,
+    )
 
 -- so many bytes are there
-pub length-read : {told : Option Contents} {all left content : List ℕ} {turn : ℕ} → ReadSoFar told all left content turn
+pub length-read : {told : Option Contents} {all left content : List ℕ} {turns still : ℕ}
+    → ReadSoFar told all left content turns still
     → IsSome told → length content ≤ length all
-length-read {told} {all} {left} {content} {turn} so_far is =
+length-read {told} {all} {left} {content} {turns} {still} so_far is =
     omega (arith, ap (λ (xs : List ℕ). length xs) (so_far.parts is), length-append content left)
 
 -- ---- faults
@@ -70,17 +95,6 @@ rest_fault told limits Hashed name left EndlessInput has cause = rest_has told n
 rest_fault told limits Listed name left EndlessInput has cause =
     rest_has told name left (λ content. (limits.turns ≤ length content) ⊎ (limits.largest < length content)) has cause
 rest_fault told limits Key name left EndlessInput has cause = absurd cause
-
--- a fault of what is left of the rest, with the reads that are left, is one of the rest
-pub later_fault : (told : Option Contents) (limits later : Limits) (all left : List ℕ) (fault : RunFault)
-    → (IsSome told → later.turns ≤ length left → limits.turns ≤ length all)
-    → IsFaultOfRest fault told later Hashed left → IsFaultOfRest fault told limits Hashed all
-later_fault told limits later all left ReadFault longer cause = absurd cause
-later_fault told limits later all left WriteFault longer cause = absurd cause
-later_fault told limits later all left Memory longer cause = tt
-later_fault told limits later all left BadKey longer cause = absurd cause
-later_fault None limits later all left EndlessInput longer cause = tt
-later_fault (Some contents) limits later all left EndlessInput longer cause = longer refl cause
 
 -- a fact of the rest, where contents are told
 pub rest_where : (told : Option Contents) (left : List ℕ) (P : List ℕ → Type 0) → (IsSome told → P left)
@@ -118,50 +132,50 @@ agrees_lacking (Some contents) sure kind name Missing lacks =
 agrees_lacking (Some contents) sure kind name CannotRead lacks = inr (refl, lacks)
 
 -- the digest of the output of what was left
-pub digest_whole : (told : Option Contents) (sure : Bool) (name left : List ℕ) (output : Output) (given : Reader)
+pub digest_whole : (told : Option Contents) (sure : Bool) (name left : List ℕ) (range : OutputRange) (given : Reader)
     (digest : List ℕ)
-    → HasContent told name left → IsOutputOf told left output.mode given
-    → ((content : List ℕ) → given ≡ record { node = top output.mode 0 content; place = 0 }
-    → digest ≡ blake3 output.mode content output.seek output.length)
-    → IsDigestOf told sure name output (Ok digest)
-digest_whole told sure name left output given digest has is_output hashed = record {
+    → HasContent told name left → IsOutputOf told left range.mode given
+    → ((content : List ℕ) → given ≡ record { node = top range.mode 0 content; place = 0 }
+    → digest ≡ blake3 range.mode content range.seek range.length)
+    → IsDigestOf told sure name range (Ok digest)
+digest_whole told sure name left range given digest has is_output hashed = record {
   answer = Ok is_output.content;
   agrees = agrees_whole told sure Hashed name left is_output.content has (λ is. ap Ok (is_output.whole is));
   is = ap Ok (hashed is_output.content is_output.output);
 }
 
-pub digest_none : (told : Option Contents) (sure : Bool) (name : List ℕ) (output : Output) (why : NoContent)
+pub digest_none : (told : Option Contents) (sure : Bool) (name : List ℕ) (range : OutputRange) (why : NoContent)
     → AgreesWith told sure Hashed name (Err why)
-    → IsDigestOf told sure name output (Err why)
-digest_none told sure name output why agrees = record { answer = Err why; agrees = agrees; is = refl }
+    → IsDigestOf told sure name range (Err why)
+digest_none told sure name range why agrees = record { answer = Err why; agrees = agrees; is = refl }
 
--- ---- a read after the first bytes of a room
+-- ---- a read after the first bytes of a buffer
 
 -- more bytes than a front has
 take-behind : (front back : List ℕ) (m n : ℕ) → length front ≡ m → take (m + n) (front ++ back) ≡ front ++ take n back
 take-behind front back m n len = ap (λ k. take (k + n) (front ++ back)) (sym len) ∙ take-append-add front back n
 
--- what is in the room after it
-pub take-read : (items room rest : List ℕ) (start n : ℕ) → start ≤ length items → n ≤ length room
-    → take (start + n) (take start items ++ (room ++ rest)) ≡ take start items ++ take n room
-take-read items room rest start n within fits =
-    take-behind (take start items) (room ++ rest) start n (length-take-le start items within)
-    ∙ ap (λ back. take start items ++ back) (take-append-le n room rest fits)
+-- what is in the buffer after it
+pub take-read : (items buffer rest : List ℕ) (start n : ℕ) → start ≤ length items → n ≤ length buffer
+    → take (start + n) (take start items ++ (buffer ++ rest)) ≡ take start items ++ take n buffer
+take-read items buffer rest start n within fits =
+    take-behind (take start items) (buffer ++ rest) start n (length-take-le start items within)
+    ∙ ap (λ back. take start items ++ back) (take-append-le n buffer rest fits)
 
 -- ---- keys
 
--- the rest ends in the room
-pub key_ended : {all left : List ℕ} (room : List ℕ) (len : ℕ) → all ≡ take len room ++ left → left ≡ [] → len ≤ 33
-    → length room ≡ 33
-    → take 33 all ≡ take len room
-key_ended {all} {left} room len parts none fits size =
-    let whole : all ≡ take len room = parts ∙ ap (λ bytes. take len room ++ bytes) none ∙ append-nil (take len room) in
-    ap (take 33) whole ∙ take_all 33 (take len room) (omega (arith, length-take-le len room (omega (arith, size))))
-
--- the room is full
-pub key_full : {all : List ℕ} (room left : List ℕ) (len : ℕ) → all ≡ take len room ++ left → len ≡ 33 → length room ≡ 33
-    → take 33 all ≡ take len room
-key_full {all} room left len parts full size =
-    let count : length (take len room) ≡ 33 = length-take-le len room (omega (arith, size)) ∙ full in
-    ap (take 33) parts ∙ take-append-le 33 (take len room) left (omega (arith, count))
-    ∙ take_all 33 (take len room) (omega (arith, count))
+-- the rest of a key is at the front of a buffer for 33 bytes
+pub key_filled : {told : Option Contents} {all rest : List ℕ} {before after n : ℕ} (buffer : List ℕ)
+    → IsFilled told all rest buffer before after n → length buffer ≡ 33 → IsSome told → take 33 all ≡ take n buffer
+key_filled {told} {all} {rest} {before} {after} {n} buffer filled size is =
+    elim (cases_lt n 33) [
+      | inl short ↦
+          let whole : all ≡ take n buffer = filled.bytes is ∙ ap (λ bytes. take n buffer ++ bytes)
+          (filled.end (omega (arith, short, size)) is)
+          ∙ append-nil (take n buffer) in
+          ap (take 33) whole ∙ take_all 33 (take n buffer) (omega (arith, short, length-take-le n buffer filled.within))
+      | inr full ↦
+          let count : length (take n buffer) ≡ 33 = omega (arith, full, size, filled.within, length-take-le n buffer filled.within) in
+          ap (take 33) (filled.bytes is) ∙ take-append-le 33 (take n buffer) rest (omega (arith, count))
+          ∙ take_all 33 (take n buffer) (omega (arith, count))
+    ]

@@ -166,85 +166,85 @@ puts_push files name content new none new_name new_content asked =
       | inr other ↦ rw other (first_of_two-none (content_among files asked))
     ]
 
--- of what is left at a place the first bytes are given
-gives_within : (content : List ℕ) (place count room : ℕ) → place ≤ length content
-    → count ≡ min (length (drop place content)) room → 0 < room
-    → Gives (drop place content) (take count (drop place content)) (drop (place + count) content)
-gives_within content place count room within is_least some = record {
+-- of what is left after those that were given, the first bytes are given
+gives_within : (content : List ℕ) (given count buffer : ℕ) → given ≤ length content
+    → count ≡ min (length (drop given content)) buffer → 0 < buffer
+    → Gives (drop given content) (take count (drop given content)) (drop (given + count) content)
+gives_within content given count buffer within is_least some = record {
   parts =
-      sym (take-append-drop count (drop place content))
-      ∙ ap (λ rest. take count (drop place content) ++ rest) (drop-drop count place content);
-  end = λ none. nil_from_length (drop place content) (
-      let few : length (take count (drop place content)) ≡ 0 = ap length none in
-      omega (arith, few, length-take count (drop place content), is_least, some)
+      sym (take-append-drop count (drop given content))
+      ∙ ap (λ rest. take count (drop given content) ++ rest) (drop-drop count given content);
+  end = λ none. nil_from_length (drop given content) (
+      let few : length (take count (drop given content)) ≡ 0 = ap length none in
+      omega (arith, few, length-take count (drop given content), is_least, some)
       );
 }
 
--- a read gives the bytes after the place
-pub gives_next : (content : List ℕ) (place count room : ℕ)
-    → count ≡ min (length (drop (min place (length content)) content)) room → 0 < room
-    → Gives (drop place content) (take count (drop (min place (length content)) content)) (drop (place + count) content)
-gives_next content place count room is_least some =
-    elim (cases_lt (length content) place) [
+-- a read gives the bytes after those that were given
+pub gives_next : (content : List ℕ) (given count buffer : ℕ)
+    → count ≡ min (length (drop (min given (length content)) content)) buffer → 0 < buffer
+    → Gives (drop given content) (take count (drop (min given (length content)) content)) (drop (given + count) content)
+gives_next content given count buffer is_least some =
+    elim (cases_lt (length content) given) [
       | inl past ↦
-          let end : min place (length content) ≡ length content = omega arith in
+          let end : min given (length content) ≡ length content = omega arith in
           let none : drop (length content) content ≡ [] = drop-length content in
-          let zero : count ≡ 0 = is_least ∙ ap (λ n. min (length (drop n content)) room) end
-          ∙ ap (λ rest. min (length rest) room) none ∙ omega arith in
-          let gone : drop place content ≡ [] = nil_from_length (drop place content)
-          (omega (arith, length-drop place content)) in
-          let gone_on : drop (place + count) content ≡ [] = nil_from_length (drop (place + count) content)
-          (omega (arith, length-drop (place + count) content)) in
+          let zero : count ≡ 0 = is_least ∙ ap (λ n. min (length (drop n content)) buffer) end
+          ∙ ap (λ rest. min (length rest) buffer) none ∙ omega arith in
+          let gone : drop given content ≡ [] = nil_from_length (drop given content)
+          (omega (arith, length-drop given content)) in
+          let gone_on : drop (given + count) content ≡ [] = nil_from_length (drop (given + count) content)
+          (omega (arith, length-drop (given + count) content)) in
           rw (gone_on, gone, end, none, zero) (record { parts = refl; end = λ _. refl })
       | inr within ↦
-          let here : min place (length content) ≡ place = omega arith in
-          rw here (gives_within content place count room within (rw here at is_least) some)
+          let here : min given (length content) ≡ given = omega arith in
+          rw here (gives_within content given count buffer within (rw here at is_least) some)
     ]
 
 -- a read from the file that is begun
-pub shelf_gives : (files : List StoredFile) (begun : Option ℕ) (k place count m : ℕ) (file : StoredFile)
-    (content room copied : List ℕ)
+pub shelf_gives : (files : List StoredFile) (begun : Option ℕ) (k given count m : ℕ) (file : StoredFile)
+    (content buffer copied : List ℕ)
     → begun ≡ Some k → k < length files → file ≡ get_or files k file → content ≡ file.content.items
-    → m ≡ min place (length content)
-    → count ≡ min (length (take (length content - m) (drop m content))) (length room)
+    → m ≡ min given (length content)
+    → count ≡ min (length (take (length content - m) (drop m content))) (length buffer)
     → copied ≡ take count (take (length content - m) (drop m content))
-    → 0 < length room
+    → 0 < length buffer
     → let begun_content = option_map_or (λ j. option_map_or (λ f. f.content.items) (slice_get files j) []) begun [] in
-    Gives (drop place begun_content) (take count (copied ++ drop count room)) (drop (place + count) begun_content)
-shelf_gives files begun k place count m file content room copied begun_is within is content_is m_is count_is copied_is
+    Gives (drop given begun_content) (take count (copied ++ drop count buffer)) (drop (given + count) begun_content)
+shelf_gives files begun k given count m file content buffer copied begun_is within is content_is m_is count_is copied_is
     some =
     let stored : option_map_or (λ f. f.content.items) (slice_get files k) [] ≡ content =
     ap (λ found. option_map_or (λ f. f.content.items) found []) (slice_get-get_or files k file within)
     ∙ ap (λ f. f.content.items) (sym is) ∙ sym content_is in
     let rest : take (length content - m) (drop m content) ≡ drop m content = take_rest content m in
-    let least : count ≡ min (length (drop m content)) (length room) = count_is
-    ∙ ap (λ bytes. min (length bytes) (length room)) rest in
-    let given : copied ≡ take count (drop m content) = copied_is ∙ ap (take count) rest in
-    let sized : length copied ≡ count = ap length given
+    let least : count ≡ min (length (drop m content)) (length buffer) = count_is
+    ∙ ap (λ bytes. min (length bytes) (length buffer)) rest in
+    let first : copied ≡ take count (drop m content) = copied_is ∙ ap (take count) rest in
+    let sized : length copied ≡ count = ap length first
     ∙ length-take-le count (drop m content) (omega (arith, least)) in
-    let taken : take count (copied ++ drop count room) ≡ take count (drop m content) =
-    ap (λ n. take n (copied ++ drop count room)) (sym sized) ∙ take-append_seam copied (drop count room) ∙ given in
-    rw (begun_is, stored, taken, m_is) (gives_next content place count (length room) (rw m_is at least) some)
+    let taken : take count (copied ++ drop count buffer) ≡ take count (drop m content) =
+    ap (λ n. take n (copied ++ drop count buffer)) (sym sized) ∙ take-append_seam copied (drop count buffer) ∙ first in
+    rw (begun_is, stored, taken, m_is) (gives_next content given count (length buffer) (rw m_is at least) some)
 
--- the bytes from a place on, after those that were given
-pub shelf_gives_at : (files : List StoredFile) (begun : Option ℕ) (k given place count : ℕ) (file : StoredFile)
-    (content room copied : List ℕ)
+-- the bytes from an offset on, after those that were given
+pub shelf_gives_at : (files : List StoredFile) (begun : Option ℕ) (k given offset count : ℕ) (file : StoredFile)
+    (content buffer copied : List ℕ)
     → begun ≡ Some k → k < length files → file ≡ get_or files k file → content ≡ file.content.items
-    → count ≡ min (length (drop (given + place) content)) (length room)
-    → copied ≡ take count (drop (given + place) content)
+    → count ≡ min (length (drop (given + offset) content)) (length buffer)
+    → copied ≡ take count (drop (given + offset) content)
     → let begun_content = option_map_or (λ j. option_map_or (λ f. f.content.items) (slice_get files j) []) begun [] in
-    take count (copied ++ drop count room) ≡ take (length room) (drop place (drop given begun_content))
-shelf_gives_at files begun k given place count file content room copied begun_is within is content_is count_is
+    take count (copied ++ drop count buffer) ≡ take (length buffer) (drop offset (drop given begun_content))
+shelf_gives_at files begun k given offset count file content buffer copied begun_is within is content_is count_is
     copied_is =
-    let rest = drop (given + place) content in
+    let rest = drop (given + offset) content in
     let stored : option_map_or (λ f. f.content.items) (slice_get files k) [] ≡ content =
     ap (λ found. option_map_or (λ f. f.content.items) found []) (slice_get-get_or files k file within)
     ∙ ap (λ f. f.content.items) (sym is) ∙ sym content_is in
     let sized : length copied ≡ count = ap length copied_is
     ∙ length-take-le count rest (omega (arith, count_is)) in
-    let taken : take count (copied ++ drop count room) ≡ take count rest =
-    ap (λ n. take n (copied ++ drop count room)) (sym sized) ∙ take-append_seam copied (drop count room) ∙ copied_is in
-    let most : count ≡ min (length room) (length rest) = omega (arith, count_is) in
-    let all : take count rest ≡ take (length room) rest =
-    ap (λ n. take n rest) most ∙ take_min (length room) rest in
-    rw (begun_is, stored) (taken ∙ all ∙ ap (take (length room)) (sym (drop-drop place given content)))
+    let taken : take count (copied ++ drop count buffer) ≡ take count rest =
+    ap (λ n. take n (copied ++ drop count buffer)) (sym sized) ∙ take-append_seam copied (drop count buffer) ∙ copied_is in
+    let most : count ≡ min (length buffer) (length rest) = omega (arith, count_is) in
+    let all : take count rest ≡ take (length buffer) rest =
+    ap (λ n. take n rest) most ∙ take_min (length buffer) rest in
+    rw (begun_is, stored) (taken ∙ all ∙ ap (take (length buffer)) (sym (drop-drop offset given content)))

@@ -13,11 +13,11 @@ use Rattle.b3_check.specs.declared.judging.Verdict.TheVariants.{Good, Differs, U
 use Rattle.b3_check.specs.declared.options.CheckOptions.{CheckOptions}
 use Rattle.b3_check.specs.declared.shelf.NoContent.TheVariants.{Missing, CannotRead}
 use Rattle.b3_check.specs.declared.tally.Tally.{Tally}
-use Rattle.b3_check.specs.Tallies.{failed_of, no_tally, one_differing, one_list, one_malformed, one_missing, one_ok, one_unreadable, verified_of, well_formed_of}
+use Rattle.b3_check.specs.Tallies.{has_no_line, is_unverified, no_tally, one_differing, one_failed, one_list, one_malformed, one_missing, one_ok}
 use Rattle.b3_check.specs.Scripts.{Answer, Given, Script, Report, in_turn, then_counted}
 use Rattle.b3_check.specs.Scripts.Kind.{Listed}
 use Rattle.b3_check.specs.Scripts.Script.{Done, Say, Ask}
-use Rattle.b3_check.specs.Digests.{digest_script, line_output}
+use Rattle.b3_check.specs.Digests.{digest_script, line_range}
 use Rattle.b3_check.specs.Sums.{complaint, line_feed}
 
 -- what a line that is not refused says: a digest, a name, and the name as it stands in the line
@@ -78,8 +78,8 @@ verdict_text options shown verdict =
 abbrev pub verdict_tally : CheckOptions → Verdict → Tally
 verdict_tally options Good = one_ok
 verdict_tally options Differs = one_differing
-verdict_tally options Unreadable = one_unreadable
-verdict_tally options IsAway = if options.ignore_missing then one_missing else one_unreadable
+verdict_tally options Unreadable = one_failed
+verdict_tally options IsAway = if options.ignore_missing then one_missing else one_failed
 
 abbrev pub verdict_report : CheckOptions → List ℕ → Verdict → Report
 verdict_report options shown verdict = record {
@@ -112,7 +112,7 @@ abbrev pub line_script : CheckOptions → List ℕ → ℕ → List ℕ → Opti
 line_script options list number line (Some fault) = Say (refused_report options list number fault) Done
 line_script options list number line None =
     let entry = entry_of line in
-    digest_script line_output entry.name (λ found. verdict_report options entry.shown (verdict_on entry.digest found))
+    digest_script line_range entry.name (λ found. verdict_report options entry.shown (verdict_on entry.digest found))
 
 -- the scripts of the lines of a list, of which the first has this number
 abbrev pub line_scripts : CheckOptions → List ℕ → ℕ → List (List ℕ) → List Script
@@ -125,24 +125,24 @@ abbrev pub unread_list_report : CheckOptions → List ℕ → Report
 unread_list_report options list = err_report options (complaint list (codes "cannot read")) one_list
 
 -- whether missing names are passed over, and no name of a list was verified
-abbrev pub is_unverified : CheckOptions → Tally → Bool
-is_unverified options tally = options.ignore_missing && verified_of tally == 0
+abbrev pub lacks_verified : CheckOptions → Tally → Bool
+lacks_verified options tally = options.ignore_missing && is_unverified tally
 
 -- whether a list is to have a check line, and none was found
-abbrev pub has_no_line : CheckOptions → Tally → Bool
-has_no_line options tally = options.strict && well_formed_of tally == 0
+abbrev pub lacks_line : CheckOptions → Tally → Bool
+lacks_line options tally = options.strict && has_no_line tally
 
 -- what is said of a list after its lines, by what was counted in them
 abbrev pub list_end : CheckOptions → List ℕ → Tally → List ℕ
 list_end options list tally =
-    (if is_unverified options tally then complaint list (codes "no file was verified") else [])
-    ++ (if has_no_line options tally then complaint list (codes "no check line found") else [])
+    (if lacks_verified options tally then complaint list (codes "no file was verified") else [])
+    ++ (if lacks_line options tally then complaint list (codes "no check line found") else [])
 
 -- the list fails for either
 abbrev pub list_end_report : CheckOptions → List ℕ → Tally → Report
 list_end_report options list tally =
     err_report options (list_end options list tally)
-    (if is_unverified options tally || has_no_line options tally then one_list else no_tally)
+    (if lacks_verified options tally || lacks_line options tally then one_list else no_tally)
 
 abbrev pub list_end_script : CheckOptions → List ℕ → Tally → Script
 list_end_script options list tally = Say (list_end_report options list tally) Done
@@ -173,7 +173,7 @@ warning failed = if failed == 0 then [] else codes "b3sum: WARNING: " ++ decimal
 
 -- the warning after the last list
 abbrev pub warning_report : CheckOptions → Tally → Report
-warning_report options tally = err_report options (warning (failed_of tally)) no_tally
+warning_report options tally = err_report options (warning tally.failed) no_tally
 
 abbrev pub warning_script : CheckOptions → Tally → Script
 warning_script options tally = Say (warning_report options tally) Done

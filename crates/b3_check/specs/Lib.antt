@@ -4,7 +4,7 @@ pub mod Tallies
 pub mod Faults
 pub mod Options
 pub mod Scripts
-pub mod Desks
+pub mod Devices
 pub mod Runs
 pub mod Owing
 pub mod Digests
@@ -12,8 +12,7 @@ pub mod Sums
 pub mod Checks
 pub mod Tasks
 pub mod Reading
-pub mod Windows
 pub mod MemoryShelves
 pub mod MemorySinks
-pub mod Ahead
-pub mod Pieces
+pub mod Prefetch
+pub mod Parts

@@ -1,12 +1,10 @@
 -- Texts that are still to be written: lines of a run that wait for those after them.
 use Rattle.std.specs.Prelude.{◌≡◌, ◌⊎◌, ℕ, ◌++◌, List, [], Result, Ok, Err}
-use Rattle.b3_check.specs.declared.options.Limits.{Limits}
 use Rattle.b3_check.specs.declared.tally.Tally.{Tally}
 use Rattle.b3_check.specs.declared.fault.RunFault.{RunFault}
 use Rattle.b3_check.specs.declared.fault.RunFault.TheVariants.{WriteFault, Memory}
-use Rattle.b3_check.specs.Runs.{Broke, Scene, Stopped, Went}
+use Rattle.b3_check.specs.Runs.{Broke, Scene, Went}
 use Rattle.b3_check.specs.Scripts.{Answer, Report, Script, AnswersFirst, IsComplete, joined, report}
-use Rattle.b3_check.specs.Scripts.Script.{Say}
 use Rattle.b3_check.specs.Tallies.{no_tally}
 
 -- a text for the first sink
@@ -37,9 +35,3 @@ pub record RanOwing (script : Script) (before after : Scene) (owed owing : List 
   pub complete : IsComplete script answers
   pub went : WentOwing before after owed owing answers (report script answers)
   pub counted : tally ≡ (report script answers).tally
-
--- the run of a script, to its end or to a fault
-abbrev pub RunsOwing : Limits → Script → Scene → Scene → List ℕ → List ℕ → Result Tally RunFault → Type 0
-RunsOwing limits script before after owed owing (Ok tally) = RanOwing script before after owed owing tally
-RunsOwing limits script before after owed owing (Err fault) =
-    Stopped limits (Say (on_out owed) script) before after fault

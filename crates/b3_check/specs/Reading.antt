@@ -1,5 +1,5 @@
 -- What reading one name says.
-use Rattle.std.specs.Prelude.{◌≡◌, ◌≢◌, ◌⊎◌, ⊤, ℕ, Bool, IsSome, List, [], ◌∷◌, Option, None, Some, Result, Ok, Err, length, take}
+use Rattle.std.specs.Prelude.{◌≡◌, ◌≢◌, ◌⊎◌, ⊤, ℕ, ◌+◌, ◌<◌, ◌≤◌, ◌++◌, Bool, IsSome, List, [], ◌∷◌, Option, None, Some, Result, Ok, Err, length, take}
 use Rattle.std.specs.Option.{option_map}
 use Rattle.std.specs.String.{string_bytes}
 use Rattle.b3_core.specs.Modes.{hash_mode, keyed_mode}
@@ -9,7 +9,7 @@ use Rattle.b3_hash.specs.Derivation.{derived_mode}
 use Rattle.b3_hash.specs.Readers.{Reader}
 use Rattle.b3_check.specs.declared.fault.RunFault.{RunFault}
 use Rattle.b3_check.specs.declared.fault.RunFault.TheVariants.{ReadFault, WriteFault, Memory, BadKey, EndlessInput}
-use Rattle.b3_check.specs.declared.hashing.Output.{Output}
+use Rattle.b3_check.specs.declared.output_range.OutputRange.{OutputRange}
 use Rattle.b3_check.specs.declared.key.KeyRead.{KeyRead}
 use Rattle.b3_check.specs.declared.options.KeyChoice.{KeyChoice}
 use Rattle.b3_check.specs.declared.options.KeyChoice.TheVariants.{Plain, Keyed, Derive}
@@ -47,11 +47,11 @@ pub record IsOutputOf (told : Option Contents) (left : List ℕ) (mode : Mode) (
   pub output : given ≡ record { node = top mode 0 content; place = 0 }
 
 -- the digest is that of the answer which the name got
-pub record IsDigestOf (told : Option Contents) (sure : Bool) (name : List ℕ) (output : Output)
+pub record IsDigestOf (told : Option Contents) (sure : Bool) (name : List ℕ) (range : OutputRange)
     (digest : Given (List ℕ)) : Type 0 where
   pub answer : Answer
   pub agrees : AgreesWith told sure Hashed name answer
-  pub is : digest ≡ digest_of output answer
+  pub is : digest ≡ digest_of range answer
 
 -- a name is answered
 pub record Answered (kind : Kind) (name : List ℕ) (answer : Answer) (before after : Scene) : Type 0 where
@@ -70,15 +70,25 @@ Asks kind limits name before after content (Ok whole) = Answered kind name (foun
 Asks kind limits name before after content (Err fault) = Unanswered kind limits name before after fault
 
 -- a name is answered, and the digest is that of its answer
-pub record Digested (output : Output) (name : List ℕ) (digest : Given (List ℕ)) (before after : Scene) : Type 0 where
+pub record Digested (range : OutputRange) (name : List ℕ) (digest : Given (List ℕ)) (before after : Scene) : Type 0 where
   pub answer : Answer
   pub answered : Answered Hashed name answer before after
-  pub is : digest ≡ digest_of output answer
+  pub is : digest ≡ digest_of range answer
 
 -- a name is asked for, and its digest; `digest` is what was found
-abbrev pub Hashes : Output → Limits → List ℕ → Scene → Scene → List ℕ → Result (Given ⊤) RunFault → Type 0
-Hashes output limits name before after digest (Ok whole) = Digested output name (found_if whole digest) before after
-Hashes output limits name before after digest (Err fault) = Unanswered Hashed limits name before after fault
+abbrev pub Hashes : OutputRange → Limits → List ℕ → Scene → Scene → List ℕ → Result (Given ⊤) RunFault → Type 0
+Hashes range limits name before after digest (Ok whole) = Digested range name (found_if whole digest) before after
+Hashes range limits name before after digest (Err fault) = Unanswered Hashed limits name before after fault
+
+-- the next n bytes of what was left stand at the front of the buffer, and only where nothing else was left they are
+-- fewer than it takes, where contents are told; of the reads that were left each gave some of them
+pub record IsFilled (told : Option Contents) (left rest buffer : List ℕ) (before after n : ℕ) : Type 0 where
+  pub within : n ≤ length buffer
+  pub bytes : IsSome told → left ≡ take n buffer ++ rest
+  pub end : n < length buffer → IsSome told → rest ≡ []
+  pub fewer : after < before
+  pub some : n ≡ length buffer → 0 < after
+  pub many : n ≡ length buffer → before ≤ after + n
 
 -- where contents are told: the rest of the file that is begun, under each name
 abbrev pub only_rest : Option Contents → List ℕ → Option Contents
@@ -96,7 +106,7 @@ is_unread (Err _) = 0
 
 -- what was read of a key
 abbrev pub key_bytes : KeyRead → List ℕ
-key_bytes key = take key.len key.room
+key_bytes key = take key.len key.buffer
 
 abbrev pub key_answer : Given KeyRead → Answer
 key_answer key = given_map key_bytes key

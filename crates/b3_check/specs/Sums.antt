@@ -8,17 +8,17 @@ use Rattle.b3_hash.specs.Derivation.{derived_mode}
 use Rattle.b3_lines.specs.Names.{holds_bad_character}
 use Rattle.b3_lines.specs.Writing.{plain, shown, tagged}
 use Rattle.b3_check.specs.declared.fault.RunFault.TheVariants.{ReadFault, BadKey}
-use Rattle.b3_check.specs.declared.hashing.Output.{Output}
+use Rattle.b3_check.specs.declared.output_range.OutputRange.{OutputRange}
 use Rattle.b3_check.specs.declared.options.SumOptions.{SumOptions}
 use Rattle.b3_check.specs.declared.options.Form.{Form}
 use Rattle.b3_check.specs.declared.options.Form.TheVariants.{Named, Bare, Raw, Tagged}
 use Rattle.b3_check.specs.declared.options.KeyChoice.{KeyChoice}
 use Rattle.b3_check.specs.declared.options.KeyChoice.TheVariants.{Plain, Keyed, Derive}
-use Rattle.b3_check.specs.Tallies.{one_ok, one_unreadable}
+use Rattle.b3_check.specs.Tallies.{one_failed, one_ok}
 use Rattle.b3_check.specs.Scripts.{Answer, Given, Script, Report, in_turn}
 use Rattle.b3_check.specs.Scripts.Kind.{Key}
 use Rattle.b3_check.specs.Scripts.Script.{Done, Fail, Say, Ask}
-use Rattle.b3_check.specs.Digests.{digest_script, output_of}
+use Rattle.b3_check.specs.Digests.{digest_script, range_of}
 
 -- a line feed
 abbrev pub line_feed : List ℕ
@@ -30,7 +30,7 @@ complaint name why = codes "b3sum: " ++ shown name ++ codes ": " ++ why ++ line_
 
 -- a name that gives no digest fails
 abbrev pub failed_report : List ℕ → List ℕ → Report
-failed_report name why = record { out = []; err = complaint name why; tally = one_unreadable }
+failed_report name why = record { out = []; err = complaint name why; tally = one_failed }
 
 -- whether no line can show the name
 abbrev pub is_bad_name : List ℕ → Bool
@@ -56,14 +56,14 @@ name_report form name (Err why) = failed_report name (codes "cannot read")
 name_report form name (Ok digest) = record { out = digest_text form digest name; err = []; tally = one_ok }
 
 -- the script of one name, which is asked for unless the form shows a name that no line can show
-abbrev pub name_script : Form → Output → List ℕ → Script
-name_script form output name =
+abbrev pub name_script : Form → OutputRange → List ℕ → Script
+name_script form range name =
     if shows_name form && is_bad_name name then Say (failed_report name (codes "bad name")) Done
-    else digest_script output name (name_report form name)
+    else digest_script range name (name_report form name)
 
 -- the script of a list of names
-abbrev pub names_script : Form → Output → List (List ℕ) → Script
-names_script form output names = in_turn (map (name_script form output) names)
+abbrev pub names_script : Form → OutputRange → List (List ℕ) → Script
+names_script form range names = in_turn (map (name_script form range) names)
 
 -- the name that keys are read from
 abbrev pub key_name : List ℕ
@@ -82,7 +82,7 @@ with_mode (Derive context) next = next (derived_mode (string_bytes context))
 
 -- the script of a run over a list of names
 abbrev pub sum_script : SumOptions → List (List ℕ) → Script
-sum_script options names = with_mode options.key (λ mode. names_script options.form (output_of mode options) names)
+sum_script options names = with_mode options.key (λ mode. names_script options.form (range_of mode options) names)
 
 -- how many keys are asked for
 abbrev pub keys_asked : KeyChoice → ℕ

@@ -1,12 +1,12 @@
 -- What a run does, task after task: no task depends on the answer to another.
-use Rattle.std.specs.Prelude.{◌≡◌, ℕ, ◌+◌, ◌&&◌, false, true, if◌then◌else◌, List, [], ◌∷◌, Option, None, Some, Result, Ok, Err, codes, length, map}
+use Rattle.std.specs.Prelude.{◌≡◌, ℕ, ◌+◌, ◌≤◌, ◌&&◌, false, true, if◌then◌else◌, List, [], ◌∷◌, Option, None, Some, Result, Ok, Err, codes, length, map}
 use Rattle.std.specs.Borrow.{Bor}
 use Rattle.std.specs.String.{string_bytes}
 use Rattle.b3_lines.specs.Reading.{first_refusal}
 use Rattle.b3_lines.specs.declared.fault.LineFault.{LineFault}
 use Rattle.b3_check.specs.declared.fault.RunFault.{RunFault}
 use Rattle.b3_check.specs.declared.fault.RunFault.TheVariants.{WriteFault}
-use Rattle.b3_check.specs.declared.hashing.Output.{Output}
+use Rattle.b3_check.specs.declared.output_range.OutputRange.{OutputRange}
 use Rattle.b3_check.specs.declared.items.Item.{Item}
 use Rattle.b3_check.specs.declared.items.Item.TheVariants.{Say as SayItem, Ask as AskItem}
 use Rattle.b3_check.specs.declared.items.Subject.{Subject}
@@ -14,13 +14,11 @@ use Rattle.b3_check.specs.declared.items.Subject.TheVariants.{Line, Name}
 use Rattle.b3_check.specs.declared.options.CheckOptions.{CheckOptions}
 use Rattle.b3_check.specs.declared.options.Form.{Form}
 use Rattle.b3_check.specs.declared.options.Limits.{Limits}
-use Rattle.b3_check.specs.declared.said.Said.{Said}
+use Rattle.b3_check.specs.declared.message.Message.{Message}
 use Rattle.b3_check.specs.Checks.{entry_of, refused_report, verdict_on, verdict_report}
-use Rattle.b3_check.specs.Digests.{digest_of, digest_script}
-use Rattle.b3_check.specs.Reading.{Answered}
+use Rattle.b3_check.specs.Digests.{digest_script}
 use Rattle.b3_check.specs.Runs.{Broke, Scene, Stopped, Went}
-use Rattle.b3_check.specs.Scripts.{Answer, Given, Report, Script, given_map, in_turn}
-use Rattle.b3_check.specs.Scripts.Kind.{Hashed}
+use Rattle.b3_check.specs.Scripts.{Answer, AnswersFirst, Given, IsComplete, Report, Script, given_map, in_turn, nothing, report}
 use Rattle.b3_check.specs.Scripts.Script.{Done, Say}
 use Rattle.b3_check.specs.Sums.{failed_report, is_bad_name, name_report, shows_name}
 use Rattle.b3_check.specs.Tallies.{counted}
@@ -31,15 +29,15 @@ pub data Task : Type 0 where
   Find : List ℕ → (Given (List ℕ) → Report) → Task
 
 -- what a task says or asks
-abbrev pub task_script : Output → Task → Script
-task_script output (Tell said) = Say said Done
-task_script output (Find name says) = digest_script output name says
+abbrev pub task_script : OutputRange → Task → Script
+task_script range (Tell said) = Say said Done
+task_script range (Find name says) = digest_script range name says
 
-abbrev pub tasks_script : Output → List Task → Script
-tasks_script output tasks = in_turn (map (task_script output) tasks)
+abbrev pub tasks_script : OutputRange → List Task → Script
+tasks_script range tasks = in_turn (map (task_script range) tasks)
 
 -- the report that is said
-abbrev pub report_of : Said → Report
+abbrev pub report_of : Message → Report
 report_of said = record { out = said.out.items; err = said.err.items; tally = said.tally }
 
 -- the name that is asked for
@@ -63,9 +61,9 @@ abbrev pub task_of : Item → Task
 task_of (SayItem said) = Tell (report_of said)
 task_of (AskItem subject) = Find (name_asked subject) (subject_report subject)
 
--- what is said counts one, or a name is asked for that is fit
+-- what is said is one line or name, or a name is asked for that is fit
 abbrev pub IsFitItem : ℕ → Item → Type 0
-IsFitItem len (SayItem said) = counted said.tally ≡ 1
+IsFitItem len (SayItem said) = counted said.tally ≤ 2
 IsFitItem len (AskItem subject) = IsFit len subject
 
 -- a report is said, or a sink fails
@@ -101,14 +99,15 @@ name_task form name =
     if shows_name form && is_bad_name name then Tell (failed_report name (codes "bad name"))
     else Find name (name_report form name)
 
--- a name is answered, and what is to be said is what its digest gives
-pub record Gave (output : Output) (name : List ℕ) (says : Given (List ℕ) → Report) (before after : Scene)
-    (said : Said) : Type 0 where
-  pub answer : Answer
-  pub answered : Answered Hashed name answer before after
-  pub is : report_of said ≡ says (digest_of output answer)
+-- the shelf gave the answers that a script asks for, and its report over them is to be said
+pub record Found (script : Script) (before after : Scene) (message : Message) : Type 0 where
+  pub answers : List Answer
+  pub agree : AnswersFirst before.told before.sure script answers
+  pub complete : IsComplete script answers
+  pub went : Went before after answers nothing
+  pub is : report_of message ≡ report script answers
 
-abbrev pub Gives : Limits → Output → List ℕ → (Given (List ℕ) → Report) → Scene → Scene → Result Said RunFault → Type 0
-Gives limits output name says before after (Ok said) = Gave output name says before after said
-Gives limits output name says before after (Err fault) = Stopped limits (digest_script output name says) before after
-    fault
+-- what a script is to say is found, or a fault stops it
+abbrev pub Finds : Limits → Script → Scene → Scene → Result Message RunFault → Type 0
+Finds limits script before after (Ok message) = Found script before after message
+Finds limits script before after (Err fault) = Stopped limits script before after fault

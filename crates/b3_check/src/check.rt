@@ -2,25 +2,25 @@
 
 ghost use Rattle.std.specs.Prelude.{◌≡◌, ◌+◌, ◌*◌, ◌-◌, ◌^◌, ◌<◌, ◌≤◌, Ok, map, string_bytes, length, vec_len, IfOk, IfErr, if◌then◌else◌};
 ghost use Rattle.b3_check.specs.Checks.{check_script, lines_script, list_script, lists_script};
-ghost use Rattle.b3_check.specs.Digests.{line_output};
+ghost use Rattle.b3_check.specs.Digests.{line_range};
 ghost use Rattle.b3_check.specs.Faults.{is_write_fault};
 ghost use Rattle.b3_check.specs.Options.{CanCheck, check_limits};
-ghost use Rattle.b3_check.specs.Desks.{loans, scene_of};
+ghost use Rattle.b3_check.specs.Devices.{loans, scene_of};
 ghost use Rattle.b3_check.specs.Runs.{HasRoom, Ran, RanSurely, Runs, Stopped, scene};
 ghost use Rattle.b3_check.specs.Tallies.{counted};
 
-use crate::crew::Crew;
-use crate::desk::Desk;
+use crate::devices::Devices;
+use crate::engine::Engine;
 use crate::fault::RunFault;
-use crate::hashing::Output;
 use crate::list_lines::ListLines;
 use crate::lists::ListReader;
+use crate::message::Message;
 use crate::options::CheckOptions;
-use crate::said::Said;
+use crate::output_range::OutputRange;
+use crate::pool::Pool;
 use crate::shelf::Shelf;
 use crate::sink::Sink;
 use crate::tally::Tally;
-use crate::work::Worker;
 use b3_board::Gate;
 use b3_core::Mode;
 use std::alloc::{AllocError, Global};
@@ -88,34 +88,40 @@ pub fn run_check<
     ensures told { S.told shelf.new ≡ S.told shelf.old }
     ensures still_sure { S.is_sure shelf.new ≡ S.is_sure shelf.old }
 {
-    let crew = Crew::new(rt, alloc, options.workers, gate);
-    let mut desk = Desk { shelf, out, err };
-    check_lists(alloc, crew, &mut desk, lists, options)
+    let pool = Pool {
+        rt,
+        alloc,
+        workers: options.workers,
+        gate,
+    };
+    let mut devices = Devices { shelf, out, err };
+    check_lists(alloc, pool, &mut devices, lists, options)
 }
 
 // Checks lists, one after the other, and says how many lines failed.
 fn check_lists<R: Threads + Wait + Sync, G: Gate + Sync, S: Shelf + Send + Sync, O: Sink, E: Sink>(
     alloc: Global,
-    crew: Crew<'_, R, G>,
-    desk: &mut Desk<'_, '_, '_, S, O, E>,
+    pool: Pool<'_, R, G>,
+    devices: &mut Devices<'_, '_, '_, S, O, E>,
     lists: &[String],
     options: &CheckOptions,
 ) -> Result<Tally, RunFault>
     requires options { CanCheck options.now }
     requires lists { length lists.now ≤ 2 ^ 30 }
-    requires room { HasRoom (scene_of S.Shelf O.Sink E.Sink desk.old) (length lists.now * (1 + options.now.largest)) }
+    requires room { HasRoom (scene_of S.Shelf O.Sink E.Sink devices.old)
+        (length lists.now * (1 + options.now.largest)) }
     ensures run { Runs (check_limits options.now) (check_script options.now (map string_bytes lists.now))
-        (scene_of S.Shelf O.Sink E.Sink desk.old) (scene_of S.Shelf O.Sink E.Sink desk.new) result }
+        (scene_of S.Shelf O.Sink E.Sink devices.old) (scene_of S.Shelf O.Sink E.Sink devices.new) result }
     ensures sure { IfOk result (λ tally. RanSurely (check_script options.now (map string_bytes lists.now))
-        (scene_of S.Shelf O.Sink E.Sink desk.old) (scene_of S.Shelf O.Sink E.Sink desk.new) tally) }
-    ensures shelf_count { S.failures desk.new.shelf.now
-        ≤ S.failures desk.old.shelf.now + length lists.now * (1 + options.now.largest) }
-    ensures loans { loans desk.new ≡ loans desk.old }
+        (scene_of S.Shelf O.Sink E.Sink devices.old) (scene_of S.Shelf O.Sink E.Sink devices.new) tally) }
+    ensures shelf_count { S.failures devices.new.shelf.now
+        ≤ S.failures devices.old.shelf.now + length lists.now * (1 + options.now.largest) }
+    ensures loans { loans devices.new ≡ loans devices.old }
 {
-    let mut checker = Checker::new(alloc, crew, options)?;
-    let tally = checker.check_all(desk, lists)?;
-    let said = Said::warning(alloc, options, &tally)?;
-    desk.say(&said)?;
+    let mut checker = Checker::new(alloc, pool, options)?;
+    let tally = checker.check_all(devices, lists)?;
+    let message = Message::warning(alloc, options, &tally)?;
+    devices.say(&message)?;
     Ok(tally)
 }
 
@@ -125,23 +131,23 @@ struct Checker<'c, R, G> {
     alloc: Global,
     options: CheckOptions,
     reader: ListReader,
-    worker: Worker<'c, R, G>,
+    engine: Engine<'c, R, G>,
     ghost largest: { options.largest ≤ 2 ^ 30 },
-    ghost same_limits: { worker.limits ≡ check_limits options },
-    ghost output: { worker.digester.output ≡ line_output },
+    ghost same_limits: { engine.limits ≡ check_limits options },
+    ghost range: { engine.digester.range ≡ line_range },
 }
 
 impl<'c, R: Threads + Wait + Sync, G: Gate + Sync> Checker<'c, R, G> {
-    /// One that has checked nothing. It takes the room for all reads here.
+    /// One that has checked nothing. It takes the memory for all reads here.
     fn new(
         alloc: Global,
-        crew: Crew<'c, R, G>,
+        pool: Pool<'c, R, G>,
         options: &CheckOptions,
     ) -> Result<Checker<'c, R, G>, AllocError>
         requires { CanCheck options.now }
         ensures { IfOk result (λ checker. checker.options ≡ options.now) }
     {
-        let output = Output {
+        let range = OutputRange {
             mode: Mode::hash(),
             seek: 0,
             length: DIGEST_LEN,
@@ -150,30 +156,30 @@ impl<'c, R: Threads + Wait + Sync, G: Gate + Sync> Checker<'c, R, G> {
             alloc,
             options: *options,
             reader: ListReader::new(alloc)?,
-            worker: Worker::new(alloc, crew, output, options.limits())?,
+            engine: Engine::new(alloc, pool, range, options.limits())?,
         })
     }
 
     // Checks lists, one after the other.
     fn check_all<S: Shelf + Send + Sync, O: Sink, E: Sink>(
         &mut self,
-        desk: &mut Desk<'_, '_, '_, S, O, E>,
+        devices: &mut Devices<'_, '_, '_, S, O, E>,
         lists: &[String],
     ) -> Result<Tally, RunFault>
         requires lists { length lists.now ≤ 2 ^ 30 }
-        requires room { HasRoom (scene_of S.Shelf O.Sink E.Sink desk.old)
+        requires room { HasRoom (scene_of S.Shelf O.Sink E.Sink devices.old)
             (length lists.now * (1 + self.old.options.largest)) }
         ensures run { Runs (check_limits self.old.options) (lists_script self.old.options (map string_bytes lists.now))
-            (scene_of S.Shelf O.Sink E.Sink desk.old) (scene_of S.Shelf O.Sink E.Sink desk.new) result }
-        ensures shelf_count { S.failures desk.new.shelf.now
-            ≤ S.failures desk.old.shelf.now + length lists.now *
+            (scene_of S.Shelf O.Sink E.Sink devices.old) (scene_of S.Shelf O.Sink E.Sink devices.new) result }
+        ensures shelf_count { S.failures devices.new.shelf.now
+            ≤ S.failures devices.old.shelf.now + length lists.now *
             (1 + self.old.options.largest) }
-        ensures count { IfOk result (λ tally. counted tally ≤ length lists.now * (1 + self.old.options.largest)) }
-        ensures loans { loans desk.new ≡ loans desk.old }
+        ensures count { IfOk result (λ tally. counted tally ≤ 2 * (length lists.now * (1 + self.old.options.largest))) }
+        ensures loans { loans devices.new ≡ loans devices.old }
     {
         let mut tally = Tally::none();
         for list in lists {
-            let one = self.check_list(desk, list.as_str())?;
+            let one = self.check_list(devices, list.as_str())?;
             tally.add(&one);
         }
         Ok(tally)
@@ -182,25 +188,25 @@ impl<'c, R: Threads + Wait + Sync, G: Gate + Sync> Checker<'c, R, G> {
     // Reads a list, and checks its lines.
     fn check_list<S: Shelf + Send + Sync, O: Sink, E: Sink>(
         &mut self,
-        desk: &mut Desk<'_, '_, '_, S, O, E>,
+        devices: &mut Devices<'_, '_, '_, S, O, E>,
         name: &str,
     ) -> Result<Tally, RunFault>
-        requires { HasRoom (scene_of S.Shelf O.Sink E.Sink desk.old) (1 + self.old.options.largest) }
+        requires { HasRoom (scene_of S.Shelf O.Sink E.Sink devices.old) (1 + self.old.options.largest) }
         ensures run { Runs (check_limits self.old.options) (list_script self.old.options name.now)
-            (scene_of S.Shelf O.Sink E.Sink desk.old) (scene_of S.Shelf O.Sink E.Sink desk.new) result }
-        ensures count { IfOk result (λ tally. counted tally ≤ 1 + self.old.options.largest) }
-        ensures shelf_count { S.failures desk.new.shelf.now
-            ≤ S.failures desk.old.shelf.now + (1 + self.old.options.largest) }
-        ensures loans { loans desk.new ≡ loans desk.old }
+            (scene_of S.Shelf O.Sink E.Sink devices.old) (scene_of S.Shelf O.Sink E.Sink devices.new) result }
+        ensures count { IfOk result (λ tally. counted tally ≤ 2 * (1 + self.old.options.largest)) }
+        ensures shelf_count { S.failures devices.new.shelf.now
+            ≤ S.failures devices.old.shelf.now + (1 + self.old.options.largest) }
+        ensures loans { loans devices.new ≡ loans devices.old }
         ensures options { self.new.options ≡ self.old.options }
     {
         let limits = self.options.limits();
-        match desk.read_list(&mut self.reader, name, limits)? {
-            Ok(()) => self.check_lines(desk, name),
+        match devices.read_list(&mut self.reader, name, limits)? {
+            Ok(()) => self.check_lines(devices, name),
             Err(_) => {
-                let said = Said::unread_list(self.alloc, &self.options, name)?;
-                desk.say(&said)?;
-                Ok(said.tally)
+                let message = Message::unread_list(self.alloc, &self.options, name)?;
+                devices.say(&message)?;
+                Ok(message.tally)
             }
         }
     }
@@ -208,26 +214,26 @@ impl<'c, R: Threads + Wait + Sync, G: Gate + Sync> Checker<'c, R, G> {
     // Checks the lines of the list of this name, which was read.
     fn check_lines<S: Shelf + Send + Sync, O: Sink, E: Sink>(
         &mut self,
-        desk: &mut Desk<'_, '_, '_, S, O, E>,
+        devices: &mut Devices<'_, '_, '_, S, O, E>,
         name: &str,
     ) -> Result<Tally, RunFault>
         requires text { vec_len self.old.reader.text ≤ self.old.options.largest }
-        requires room { HasRoom (scene_of S.Shelf O.Sink E.Sink desk.old) self.old.options.largest }
+        requires room { HasRoom (scene_of S.Shelf O.Sink E.Sink devices.old) self.old.options.largest }
         ensures run { Runs (check_limits self.old.options)
             (lines_script self.old.options name.now (Ok self.old.reader.text.items))
-            (scene_of S.Shelf O.Sink E.Sink desk.old) (scene_of S.Shelf O.Sink E.Sink desk.new) result }
-        ensures count { IfOk result (λ tally. counted tally ≤ 1 + self.old.options.largest) }
-        ensures shelf_count { S.failures desk.new.shelf.now
-            ≤ S.failures desk.old.shelf.now + self.old.options.largest }
-        ensures loans { loans desk.new ≡ loans desk.old }
+            (scene_of S.Shelf O.Sink E.Sink devices.old) (scene_of S.Shelf O.Sink E.Sink devices.new) result }
+        ensures count { IfOk result (λ tally. counted tally ≤ 2 * (1 + self.old.options.largest)) }
+        ensures shelf_count { S.failures devices.new.shelf.now
+            ≤ S.failures devices.old.shelf.now + self.old.options.largest }
+        ensures loans { loans devices.new ≡ loans devices.old }
         ensures options { self.new.options ≡ self.old.options }
     {
         let (alloc, options) = (self.alloc, self.options);
         let mut agenda = ListLines::new(alloc, options, name, FIRST_LINE, self.reader.text());
-        let mut tally = self.worker.run(desk, &mut agenda)?;
-        let said = Said::list_end(alloc, &options, name, &tally)?;
-        desk.say(&said)?;
-        tally.add(&said.tally);
+        let mut tally = self.engine.run(devices, &mut agenda)?;
+        let message = Message::list_end(alloc, &options, name, &tally)?;
+        devices.say(&message)?;
+        tally.add(&message.tally);
         Ok(tally)
     }
 }

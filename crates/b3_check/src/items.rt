@@ -4,8 +4,8 @@ ghost use Rattle.std.specs.Prelude.{◌≡◌, ℕ, Bool, List, [], ◌∷◌, t
 ghost use Rattle.b3_check.specs.Sums.{is_bad_name, shows_name};
 ghost use Rattle.b3_check.specs.Tasks.{IsFit, IsFitItem, Task, bytes_of, len_of, name_asked, name_task, report_of, subject_report, task_of};
 
+use crate::message::Message;
 use crate::options::{CheckOptions, Form};
-use crate::said::Said;
 use crate::shelf::NoContent;
 use b3_lines::{Line, holds_bad_character};
 use std::alloc::{AllocError, Global};
@@ -14,7 +14,7 @@ use std::alloc::{AllocError, Global};
 #[derive(Drop)]
 pub enum Item<'a> {
     /// Says this.
-    Say(Said),
+    Say(Message),
     /// Asks for a name, and says what its digest gives.
     Ask(Subject<'a>),
 }
@@ -40,13 +40,17 @@ impl Subject<'_> {
     }
 
     /// What this digest gives, or why there is none.
-    pub fn said(&self, alloc: Global, digest: Result<&[u8], NoContent>) -> Result<Said, AllocError>
+    pub fn message(
+        &self,
+        alloc: Global,
+        digest: Result<&[u8], NoContent>,
+    ) -> Result<Message, AllocError>
         requires { IsFit (len_of digest) self.now }
-        ensures { IfOk result (λ said. report_of said ≡ subject_report self.now (bytes_of digest.entry)) }
+        ensures { IfOk result (λ message. report_of message ≡ subject_report self.now (bytes_of digest.entry)) }
     {
         match self {
-            Subject::Name(form, name) => Said::of_name(alloc, *form, name, digest),
-            Subject::Line(options, line) => Said::of_line(alloc, options, line, digest),
+            Subject::Name(form, name) => Message::of_name(alloc, *form, name, digest),
+            Subject::Line(options, line) => Message::of_line(alloc, options, line, digest),
         }
     }
 }
@@ -89,7 +93,7 @@ impl<'a> Agenda<'a> for Names<'a> {
         self.names = rest;
         let name = name.as_str();
         if self.form.shows_name() && is_bad_name(name) {
-            return Ok(Some(Item::Say(Said::failed(self.alloc, name, "bad name")?)));
+            return Ok(Some(Item::Say(Message::failed(self.alloc, name, "bad name")?)));
         }
         Ok(Some(Item::Ask(Subject::Name(self.form, name))))
     }

@@ -9,7 +9,7 @@ ghost use Rattle.b3_check.specs.Sums.{key_name};
 ghost use Rattle.b3_check.specs.declared.fault.RunFault.TheVariants.{BadKey};
 
 use crate::fault::RunFault;
-use crate::room::read_at;
+use crate::in_order::fill;
 use crate::shelf::{NoContent, Shelf};
 use b3_core::Mode;
 
@@ -20,12 +20,12 @@ const KEY_NAME: &str = "-";
 const KEY_LEN: usize = 32;
 
 /// How many bytes of a key are read: one more than it may have.
-const KEY_ROOM_LEN: usize = KEY_LEN + 1;
+const KEY_BUFFER_LEN: usize = KEY_LEN + 1;
 
 /// What was read of a key: all of it, or its first 33 bytes.
 #[derive(Clone, Copy)]
 pub struct KeyRead {
-    room: [u8; KEY_ROOM_LEN],
+    buffer: [u8; KEY_BUFFER_LEN],
     len: usize,
 }
 
@@ -39,7 +39,7 @@ impl KeyRead {
         ensures still_sure { S.is_sure shelf.new ≡ S.is_sure shelf.old }
     {
         shelf.begin(KEY_NAME)?;
-        read_rest(shelf).ok_or(NoContent::CannotRead)
+        read_key(shelf).ok_or(NoContent::CannotRead)
     }
 
     /// The mode of the key, which is to be 32 bytes.
@@ -52,13 +52,13 @@ impl KeyRead {
             return Err(RunFault::BadKey);
         }
         let mut key = [0; KEY_LEN];
-        key.copy_from_slice(&self.room[..KEY_LEN]);
+        key.copy_from_slice(&self.buffer[..KEY_LEN]);
         Ok(Mode::keyed(&key))
     }
 }
 
 // Reads the key from the file that is begun.
-fn read_rest<S: Shelf>(shelf: &mut S) -> Option<KeyRead>
+fn read_key<S: Shelf>(shelf: &mut S) -> Option<KeyRead>
     requires { S.failures shelf.old < 2 ^ 64 - 1 }
     ensures answer { MatchOption result (S.is_sure shelf.old ≡ false)
         (λ key. IsSome (S.told shelf.old) → take 33 (S.left shelf.old) ≡ key_bytes key) }
@@ -66,16 +66,12 @@ fn read_rest<S: Shelf>(shelf: &mut S) -> Option<KeyRead>
     ensures told { S.told shelf.new ≡ S.told shelf.old }
     ensures still_sure { S.is_sure shelf.new ≡ S.is_sure shelf.old }
 {
-    let mut room = [0; KEY_ROOM_LEN];
-    let mut len = 0;
-    while len < KEY_ROOM_LEN {
-        let Ok(count) = read_at(shelf, &mut room, len, KEY_ROOM_LEN - len) else {
-            return None;
-        };
-        if count == 0 {
-            return Some(KeyRead { room, len });
-        }
-        len += count;
+    let mut buffer = [0; KEY_BUFFER_LEN];
+    // Each read but the last gives a byte.
+    let mut turns = KEY_BUFFER_LEN as u64 + 1;
+    match fill(shelf, &mut buffer, &mut turns) {
+        Ok(Some(len)) => Some(KeyRead { buffer, len }),
+        Ok(None) => None,
+        Err(_) => unreachable!(),
     }
-    Some(KeyRead { room, len })
 }

@@ -2,13 +2,14 @@
 //! what it writes to its two sinks.
 #![tactic(auto)]
 
-mod ahead;
+mod at_offsets;
 mod buffer;
 mod check;
-mod crew;
-mod desk;
+mod devices;
+mod digester;
+mod engine;
 mod fault;
-mod hashing;
+mod in_order;
 mod items;
 mod judging;
 mod key;
@@ -16,16 +17,16 @@ mod list_lines;
 mod lists;
 mod memory_shelf;
 mod memory_sink;
+mod message;
+mod name_hasher;
 mod options;
-mod pieces;
-mod room;
-mod said;
+mod output_range;
+mod pool;
+mod prefetch;
 mod shelf;
 mod sink;
 mod sum;
 mod tally;
-mod window;
-mod work;
 mod writing;
 
 pub use b3_board::MAX_WORKERS;

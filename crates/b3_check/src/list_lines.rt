@@ -5,8 +5,8 @@ ghost use Rattle.b3_lines.specs.Lines.{IsWithin, line_at, lines_of};
 ghost use Rattle.b3_check.specs.Tasks.{line_tasks};
 
 use crate::items::{Agenda, Item, Subject};
+use crate::message::Message;
 use crate::options::CheckOptions;
-use crate::said::Said;
 use b3_lines::{LineFault, Lines, lines, read_line};
 use std::alloc::{AllocError, Global};
 
@@ -18,11 +18,11 @@ pub struct ListLines<'t> {
     /// The name of the list.
     name: &'t str,
     text: &'t [u8],
-    places: Lines<'t>,
+    lines: Lines<'t>,
     /// The number of the next line.
     number: u64,
-    ghost within: { All (IsWithin text.now) places },
-    ghost numbered: { number + length places ≤ 2 ^ 32 },
+    ghost within: { All (IsWithin text.now) lines },
+    ghost numbered: { number + length lines ≤ 2 ^ 32 },
 }
 
 impl<'t> ListLines<'t> {
@@ -45,7 +45,7 @@ impl<'t> ListLines<'t> {
             options,
             name,
             text,
-            places: lines(text),
+            lines: lines(text),
             number: first,
         }
     }
@@ -53,12 +53,12 @@ impl<'t> ListLines<'t> {
 
 impl<'t> Agenda<'t> for ListLines<'t> {
     ghost left = { λ agenda. line_tasks agenda.options agenda.name.now agenda.number
-        (map (line_at agenda.text.now) agenda.places) };
+        (map (line_at agenda.text.now) agenda.lines) };
 
     ghost fits = { λ _ len. len == 32 };
 
     fn next(&mut self) -> Result<Option<Item<'t>>, AllocError> {
-        let Some((start, end)) = self.places.next() else {
+        let Some((start, end)) = self.lines.next() else {
             return Ok(None);
         };
         let number = self.number;
@@ -67,8 +67,14 @@ impl<'t> Agenda<'t> for ListLines<'t> {
             Ok(line) => Ok(Some(Item::Ask(Subject::Line(self.options, line)))),
             Err(LineFault::Memory) => Err(AllocError),
             Err(fault) => {
-                let said = Said::refused(self.alloc, &self.options, self.name, number, fault)?;
-                Ok(Some(Item::Say(said)))
+                let message = Message::refused(
+                    self.alloc,
+                    &self.options,
+                    self.name,
+                    number,
+                    fault,
+                )?;
+                Ok(Some(Item::Say(message)))
             }
         }
     }

@@ -7,25 +7,25 @@ ghost use Rattle.b3_check.specs.Scripts.{AgreesWith};
 ghost use Rattle.b3_check.specs.Scripts.Kind.{Listed};
 ghost use Rattle.b3_check.specs.declared.shelf.NoContent.TheVariants.{CannotRead};
 
+use crate::buffer::{Buffer, READ_LEN};
 use crate::fault::RunFault;
+use crate::in_order::fill;
 use crate::options::Limits;
-use crate::room::{READ_LEN, zeros};
 use crate::shelf::{NoContent, Shelf};
 use std::alloc::{AllocError, Global};
 
 /// Reads lists whole, one after the other, over the same memory.
 #[derive(Drop)]
 pub struct ListReader {
-    room: Vec<u8>,
+    buffer: Buffer,
     text: Vec<u8>,
-    ghost has_room: { 0 < vec_len room },
 }
 
 impl ListReader {
-    /// A reader that has read nothing. It takes the room for its reads here.
+    /// A reader that has read nothing. It takes the memory for its reads here.
     pub fn new(alloc: Global) -> Result<ListReader, AllocError> {
         Ok(ListReader {
-            room: zeros(alloc, READ_LEN)?,
+            buffer: Buffer::new(alloc)?,
             text: Vec::new(alloc),
         })
     }
@@ -45,7 +45,8 @@ impl ListReader {
         name: &str,
         limits: Limits,
     ) -> Result<Result<(), NoContent>, RunFault>
-        requires { S.failures shelf.old < 2 ^ 64 - 1 }
+        requires count { S.failures shelf.old < 2 ^ 64 - 1 }
+        requires turns { 0 < limits.turns }
         ensures answer { IfOk result (λ whole. AgreesWith (S.told shelf.old) (S.is_sure shelf.old) Listed name.now
             (found_if whole self.new.text.items)) }
         ensures fault { IfErr result (λ fault. IsReadingFault fault (S.told shelf.old) limits Listed name.now) }
@@ -56,22 +57,24 @@ impl ListReader {
         ensures still_sure { S.is_sure shelf.new ≡ S.is_sure shelf.old }
     {
         self.text.clear();
+        let buffer = self.buffer.front(READ_LEN)?;
         if let Err(why) = shelf.begin(name) {
             return Ok(Err(why));
         }
-        read_rest(shelf, self.room.as_mut_slice(), &mut self.text, limits)
+        read_text(shelf, buffer, &mut self.text, limits)
     }
 }
 
 // Reads what is left of the list that is begun.
-fn read_rest<S: Shelf>(
+fn read_text<S: Shelf>(
     shelf: &mut S,
-    room: &mut [u8],
+    buffer: &mut [u8],
     text: &mut Vec<u8>,
     limits: Limits,
 ) -> Result<Result<(), NoContent>, RunFault>
     requires count { S.failures shelf.old < 2 ^ 64 - 1 }
-    requires room { 0 < length room.old }
+    requires turns { 0 < limits.turns }
+    requires buffer { 0 < length buffer.old }
     requires empty { text.old.items ≡ [] }
     ensures read { IfOk result (λ read. MatchResult read
         (λ _. IsSome (S.told shelf.old) → S.left shelf.old ≡ text.new.items)
@@ -79,22 +82,25 @@ fn read_rest<S: Shelf>(
     ensures fault { IfErr result (λ fault. IsFaultOfRest fault (S.told shelf.old) limits Listed (S.left shelf.old)) }
     ensures no_sink { is_write_fault result ≡ false }
     ensures largest { OnOk result (vec_len text.new ≤ limits.largest) }
-    ensures room { length room.new ≡ length room.old }
     ensures count { S.failures shelf.new ≡ S.failures shelf.old + unread_count result }
     ensures told { S.told shelf.new ≡ S.told shelf.old }
     ensures still_sure { S.is_sure shelf.new ≡ S.is_sure shelf.old }
 {
-    for _turn in 0..limits.turns {
-        let Ok(count) = shelf.read(room) else {
+    let mut turns = limits.turns;
+    'fills: loop {
+        let left = limits.largest - text.len() as u64;
+        // One byte over the bound shows that the list is too long, so that no more is asked for.
+        let len = left.saturating_add(1).min(buffer.len() as u64) as usize;
+        let front = &mut buffer[..len];
+        let Some(count) = fill(shelf, front, &mut turns)? else {
             return Ok(Err(NoContent::CannotRead));
         };
-        if count == 0 {
-            return Ok(Ok(()));
-        }
-        if count as u64 > limits.largest - text.len() as u64 {
+        if count as u64 > left {
             return Err(RunFault::EndlessInput);
         }
-        text.extend_from_slice(&room[..count])?;
+        text.extend_from_slice(&front[..count])?;
+        if count < len {
+            return Ok(Ok(()));
+        }
     }
-    Err(RunFault::EndlessInput)
 }

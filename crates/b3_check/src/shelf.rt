@@ -1,5 +1,5 @@
 ghost use Rattle.std.specs.Prelude.{◌≡◌, ℕ, ◌+◌, ◌-◌, ◌^◌, ◌<◌, ◌≤◌, ◌&&◌, Bool, false, IsTrue, List, [], take, length, Option, IsSome, IsOk, OnOk, IfOk, IfErr, IfSome, drop, is_ok, is_err, if◌then◌else◌};
-ghost use Rattle.b3_check.specs.Contents.{Contents, Gives, HasContent, IsSeen, LacksContent};
+ghost use Rattle.b3_check.specs.Contents.{Contents, Gives, HasContent, StandsForContent, LacksContent};
 ghost use Rattle.b3_hash.specs.Hashers.{StandsFor, mode_of};
 
 use b3_hash::Hasher;
@@ -63,26 +63,32 @@ pub trait Shelf {
         ensures told { told self.new ≡ told self.old }
         ensures still_sure { is_sure self.new ≡ is_sure self.old };
 
-    /// Has the whole content of a name hashed by `_hasher`, through `_room`, and answers whether it has: there is a
+    /// Has the whole content of a name hashed by `_hasher`, through `_buffer`, and answers whether it has: there is a
     /// plain file of this name, of at most `_longest` bytes, which is soon read. It changes nothing, so that many
     /// threads may ask at once.
-    fn peek(&self, _name: &str, _longest: u64, _room: &mut [u8], _hasher: &mut Hasher) -> bool
-        requires room { 0 < length _room.old }
+    fn hash_whole(
+        &self,
+        _name: &str,
+        _longest: u64,
+        _buffer: &mut [u8],
+        _hasher: &mut Hasher,
+    ) -> bool
+        requires buffer { 0 < length _buffer.old }
         requires fresh { StandsFor _hasher.old [] }
-        ensures len { length _room.new ≡ length _room.old }
+        ensures len { length _buffer.new ≡ length _buffer.old }
         ensures mode { mode_of _hasher.new ≡ mode_of _hasher.old }
-        ensures content { IsTrue result → IsSeen (told self.now) _name.now _hasher.new }
+        ensures content { IsTrue result → StandsForContent (told self.now) _name.now _hasher.new }
     {
         false
     }
 
-    /// Fills the room with what is left of the file, from `place` on, as far as there is any, and answers how
+    /// Fills the buffer with what is left of the file, from `offset` on, as far as there is any, and answers how
     /// many bytes that are; nothing where it cannot. The file stays where it is.
-    fn read_at(&self, _place: u64, _room: &mut [u8]) -> Option<usize>
-        ensures len { length _room.new ≡ length _room.old }
-        ensures within { IfSome result (λ n. n ≤ length _room.old) }
+    fn read_at(&self, _offset: u64, _buffer: &mut [u8]) -> Option<usize>
+        ensures len { length _buffer.new ≡ length _buffer.old }
+        ensures within { IfSome result (λ n. n ≤ length _buffer.old) }
         ensures bytes { IsSome (told self.now)
-            → IfSome result (λ n. take n _room.new ≡ take (length _room.old) (drop _place (left self.now))) }
+            → IfSome result (λ n. take n _buffer.new ≡ take (length _buffer.old) (drop _offset (left self.now))) }
     {
         None
     }

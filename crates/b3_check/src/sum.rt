@@ -4,21 +4,21 @@ ghost use Rattle.std.specs.Prelude.{◌≡◌, ◌+◌, ◌-◌, ◌^◌, ◌<�
 ghost use Rattle.b3_check.specs.Faults.{is_write_fault};
 ghost use Rattle.b3_check.specs.Options.{CanRun, limits_of};
 ghost use Rattle.b3_check.specs.Reading.{FindsMode};
-ghost use Rattle.b3_check.specs.Desks.{loans, scene_of};
+ghost use Rattle.b3_check.specs.Devices.{loans, scene_of};
 ghost use Rattle.b3_check.specs.Runs.{HasRoom, Ran, RanSurely, Runs, Stopped, scene};
 ghost use Rattle.b3_check.specs.Sums.{keys_asked, sum_script};
 ghost use Rattle.b3_check.specs.declared.options.Form.TheVariants.{Raw};
 
-use crate::crew::Crew;
-use crate::desk::Desk;
+use crate::devices::Devices;
+use crate::engine::Engine;
 use crate::fault::RunFault;
-use crate::hashing::Output;
 use crate::items::Names;
 use crate::options::{KeyChoice, SumOptions};
+use crate::output_range::OutputRange;
+use crate::pool::Pool;
 use crate::shelf::Shelf;
 use crate::sink::Sink;
 use crate::tally::Tally;
-use crate::work::Worker;
 use b3_board::Gate;
 use b3_core::Mode;
 use b3_hash::derive_mode;
@@ -29,7 +29,7 @@ use std::thread::Threads;
 /// Writes the digest of each name to `out`, and to `err` a complaint for each name that has none, and
 /// answers how many names are ok and how many failed.
 ///
-/// A digest is `length` bytes of the output from place `seek` on (BLAKE3 (2020), 2.6). With the key
+/// A digest is `length` bytes of the output from byte `seek` on (BLAKE3 (2020), 2.6). With the key
 /// `Keyed` the name `-` is read first, at most 33 bytes of it. A run fault ends the run.
 pub fn run_sum<R: Threads + Wait + Sync, S: Shelf + Send + Sync, O: Sink, E: Sink, G: Gate + Sync>(
     rt: &R,
@@ -73,59 +73,64 @@ pub fn run_sum<R: Threads + Wait + Sync, S: Shelf + Send + Sync, O: Sink, E: Sin
     ensures told { S.told shelf.new ≡ S.told shelf.old }
     ensures still_sure { S.is_sure shelf.new ≡ S.is_sure shelf.old }
 {
-    let crew = Crew::new(rt, alloc, options.workers, gate);
-    let mut desk = Desk { shelf, out, err };
-    sum_names(alloc, crew, &mut desk, names, options)
+    let pool = Pool {
+        rt,
+        alloc,
+        workers: options.workers,
+        gate,
+    };
+    let mut devices = Devices { shelf, out, err };
+    sum_names(alloc, pool, &mut devices, names, options)
 }
 
 // Writes the digest of each name.
 fn sum_names<R: Threads + Wait + Sync, G: Gate + Sync, S: Shelf + Send + Sync, O: Sink, E: Sink>(
     alloc: Global,
-    crew: Crew<'_, R, G>,
-    desk: &mut Desk<'_, '_, '_, S, O, E>,
+    pool: Pool<'_, R, G>,
+    devices: &mut Devices<'_, '_, '_, S, O, E>,
     names: &[String],
     options: &SumOptions,
 ) -> Result<Tally, RunFault>
     requires options { CanRun options.now }
     requires names { length names.now ≤ 2 ^ 30 }
-    requires room { HasRoom (scene_of S.Shelf O.Sink E.Sink desk.old) (1 + length names.now) }
+    requires room { HasRoom (scene_of S.Shelf O.Sink E.Sink devices.old) (1 + length names.now) }
     ensures run { Runs (limits_of options.now) (sum_script options.now (map string_bytes names.now))
-        (scene_of S.Shelf O.Sink E.Sink desk.old) (scene_of S.Shelf O.Sink E.Sink desk.new) result }
+        (scene_of S.Shelf O.Sink E.Sink devices.old) (scene_of S.Shelf O.Sink E.Sink devices.new) result }
     ensures sure { IfOk result (λ tally. RanSurely (sum_script options.now (map string_bytes names.now))
-        (scene_of S.Shelf O.Sink E.Sink desk.old) (scene_of S.Shelf O.Sink E.Sink desk.new) tally) }
-    ensures shelf_count { S.failures desk.new.shelf.now
-        ≤ S.failures desk.old.shelf.now + keys_asked options.now.key + length names.now }
-    ensures loans { loans desk.new ≡ loans desk.old }
+        (scene_of S.Shelf O.Sink E.Sink devices.old) (scene_of S.Shelf O.Sink E.Sink devices.new) tally) }
+    ensures shelf_count { S.failures devices.new.shelf.now
+        ≤ S.failures devices.old.shelf.now + keys_asked options.now.key + length names.now }
+    ensures loans { loans devices.new ≡ loans devices.old }
 {
-    let mode = find_mode(desk, &options.key)?;
-    let output = Output {
+    let mode = find_mode(devices, &options.key)?;
+    let range = OutputRange {
         mode,
         seek: options.seek,
         length: options.length,
     };
-    let mut worker = Worker::new(alloc, crew, output, options.limits())?;
+    let mut engine = Engine::new(alloc, pool, range, options.limits())?;
     let mut agenda = Names {
         alloc,
         form: options.form,
         names,
     };
-    worker.run(desk, &mut agenda)
+    engine.run(devices, &mut agenda)
 }
 
 // The mode of a choice of key, which may have to be read.
 fn find_mode<S: Shelf + Send + Sync, O: Sink, E: Sink>(
-    desk: &mut Desk<'_, '_, '_, S, O, E>,
+    devices: &mut Devices<'_, '_, '_, S, O, E>,
     key: &KeyChoice,
 ) -> Result<Mode, RunFault>
-    requires { HasRoom (scene_of S.Shelf O.Sink E.Sink desk.old) 1 }
+    requires { HasRoom (scene_of S.Shelf O.Sink E.Sink devices.old) 1 }
     ensures found { FindsMode key.now
-        (scene_of S.Shelf O.Sink E.Sink desk.old) (scene_of S.Shelf O.Sink E.Sink desk.new) result }
-    ensures loans { loans desk.new ≡ loans desk.old }
+        (scene_of S.Shelf O.Sink E.Sink devices.old) (scene_of S.Shelf O.Sink E.Sink devices.new) result }
+    ensures loans { loans devices.new ≡ loans devices.old }
 {
     match key {
         KeyChoice::Plain => Ok(Mode::hash()),
         KeyChoice::Derive(context) => Ok(derive_mode(context.as_str())),
-        KeyChoice::Keyed => match desk.read_key() {
+        KeyChoice::Keyed => match devices.read_key() {
             Ok(read) => read.mode(),
             Err(_) => Err(RunFault::ReadFault),
         },

@@ -1,26 +1,22 @@
 // What runs write and count, over devices in memory and devices that take few bytes a call.
 
-mod beside;
+mod at_once;
 mod checks;
 mod contents;
 mod ended;
 mod faults;
 mod gathered;
-mod in_order;
+mod lengths;
 mod lettered_files;
 mod meeting;
 mod memory;
-mod peeking;
-mod pieces;
+mod names;
 mod plain_lines;
 mod random;
 mod recording;
 mod report;
-mod slow_names;
 mod strictness;
 mod sums;
-mod windows;
-mod workers;
 
 use b3_check::{CheckOptions, Form, KeyChoice, RunFault, SumOptions, Tally};
 use std::alloc::Global;
@@ -37,14 +33,14 @@ const KEYED_EMPTY: &str = "92b2b75604ed3c761f9d6f62392c8a9227ad0ea3f09573e783f14
 const ONE_BYTE: &str = "2d3adedff11b61f14c886e35afa036736dcd87a74d27b5c1510225d0f592e213";
 
 // So many names that are ok, and that cannot be read or have no line, and so many lists that failed.
-const fn tally(ok: u64, unreadable: u64, lists: u64) -> Tally {
+const fn tally(ok: u64, failed: u64, lists: u64) -> Tally {
     Tally {
         ok,
+        failed,
+        lists,
         differing: 0,
-        unreadable,
         malformed: 0,
         missing: 0,
-        lists,
     }
 }
 
@@ -52,11 +48,13 @@ const fn tally(ok: u64, unreadable: u64, lists: u64) -> Tally {
 const fn lines_tally(ok: u64, differing: u64, unreadable: u64, malformed: u64) -> Tally {
     Tally {
         ok,
+        failed: differing
+            .saturating_add(unreadable)
+            .saturating_add(malformed),
+        lists: 0,
         differing,
-        unreadable,
         malformed,
         missing: 0,
-        lists: 0,
     }
 }
 

@@ -5,7 +5,7 @@ ghost use Rattle.b3_board.specs.Seats.{HasSeenAll, IsSeatOf};
 
 use super::memory::last_growth;
 use arrayvec::ArrayVec;
-use b3_board::{BoardFault, Claims, Gate, OpenGate, Seat};
+use b3_board::{BoardFault, Claims, Seat};
 use std::alloc::Global;
 use std::process::Abort;
 use std::test::Fail;
@@ -130,22 +130,4 @@ fn a_refused_growth_makes_no_claims(rt: HostRuntime) {
         last_growth(rt.alloc()).is_ok(),
         "refused after the last call"
     );
-}
-
-// A gate that does not say whether it holds a worker.
-struct SilentGate;
-
-impl Gate for SilentGate {
-    fn pass(&self, _worker: usize, _span: usize) {}
-}
-
-fn assert_gate<G: Gate>(rt: &impl Abort, gate: &G, may_hold: bool) {
-    gate.pass(0, 1);
-    assert_eq!(rt; gate.may_hold(), may_hold);
-}
-
-#[test]
-fn gates_that_hold_and_do_not(rt: HostRuntime) {
-    assert_gate(&rt, &OpenGate, false);
-    assert_gate(&rt, &SilentGate, true);
 }

@@ -4,10 +4,10 @@ ghost use Rattle.std.specs.Prelude.{◌≡◌, length};
 ghost use Rattle.b3_board.specs.Plans.{IsPlanOf};
 ghost use Rattle.b3_board.specs.Seats.{IsSeatOf};
 
+use super::meeting::Yielding;
 use super::memory::by_grain;
-use super::workers::Yielding;
-use super::{assert_root, counts, open_board, pattern, sweep};
-use b3_board::{Board, BoardFault, Claims, Done, Ended, Plan, Planned, Refused, Share, worker};
+use super::{assert_root, counts, open_board, pattern, span, sweep};
+use b3_board::{BoardFault, Claims, Done, Ended, MemoryBoard, Named, Plan, Refused, Share, worker};
 use b3_core::{Mode, Span};
 use std::alloc::Global;
 use std::marker::{Brand, Send, Sync};
@@ -18,7 +18,7 @@ use std::test::Fail;
 use std::thread;
 use std::thread::Threads;
 
-fn is_open<'a, L: Planned>(board: &Board<'a, L>, span: Span) -> bool {
+fn is_open<'a, L: Named>(board: &MemoryBoard<'a, L>, span: Span) -> bool {
     for i in 0..board.open_spans() {
         if board.open_span(i) == Some(span) {
             return true;
@@ -28,8 +28,8 @@ fn is_open<'a, L: Planned>(board: &Board<'a, L>, span: Span) -> bool {
 }
 
 // A deposit, of which its caller compares what it did.
-fn put<'a, L: Planned>(
-    board: &mut Board<'a, L>,
+fn put<'a, L: Named>(
+    board: &mut MemoryBoard<'a, L>,
     share: &mut Share<L>,
     done: Done<'a>,
 ) -> Result<(), Refused<'a>> {
@@ -38,9 +38,9 @@ fn put<'a, L: Planned>(
 
 // Deposits what is done. It is taken where its span is open and its plan is the board's; else it comes back by
 // the name of the first of both that does not hold, and neither board nor share has changed.
-fn deposit_checked<'a, L: Planned>(
+fn deposit_checked<'a, L: Named>(
     rt: &impl Abort,
-    board: &mut Board<'a, L>,
+    board: &mut MemoryBoard<'a, L>,
     share: &mut Share<L>,
     done: Done<'a>,
     is_own: bool,
@@ -74,9 +74,9 @@ fn deposit_checked<'a, L: Planned>(
 }
 
 // Deposits span `i` of the plan twice, where the plan has so many.
-fn deposit_twice<'a, L: Planned, R: Wait + Abort>(
+fn deposit_twice<'a, L: Named, R: Wait + Abort>(
     rt: &R,
-    board: &Mutex<Board<'a, L>>,
+    board: &Mutex<MemoryBoard<'a, L>>,
     share: &mut Share<L>,
     plan: &Plan<'a>,
     i: usize,
@@ -92,63 +92,59 @@ fn deposit_twice<'a, L: Planned, R: Wait + Abort>(
     }
 }
 
-// Deposits what the board's own plan gives, and plans of strangers: over other bytes, in another mode, at another
-// first chunk and by another cutting.
-fn deposit_all<'a, L: Planned, R: Wait + Abort>(
+// Deposits span `i` of each of these plans twice.
+fn deposit_strangers<'a, L: Named, R: Wait + Abort>(
     rt: &R,
-    board: &Mutex<Board<'a, L>>,
+    board: &Mutex<MemoryBoard<'a, L>>,
+    share: &mut Share<L>,
+    strangers: &[Plan<'a>],
+    i: usize,
+) {
+    for stranger in strangers {
+        deposit_twice(rt, board, share, stranger, i);
+    }
+}
+
+// Deposits what the board's own plan gives, and plans of strangers.
+fn deposit_all<'a, L: Named, R: Wait + Abort>(
+    rt: &R,
+    board: &Mutex<MemoryBoard<'a, L>>,
     share: &mut Share<L>,
     plan: &Plan<'a>,
-    other: &Plan<'a>,
-    keyed: &Plan<'a>,
-    later: &Plan<'a>,
-    coarse: &Plan<'a>,
+    strangers: &[Plan<'a>],
 ) {
     for i in 0..plan.len() {
-        deposit_twice(rt, board, share, other, i);
-        deposit_twice(rt, board, share, keyed, i);
-        deposit_twice(rt, board, share, later, i);
-        deposit_twice(rt, board, share, coarse, i);
+        deposit_strangers(rt, board, share, strangers, i);
         deposit_twice(rt, board, share, plan, i);
     }
 }
 
 // Runs the two beside one another, and gives what both hold after it.
-fn work_beside<'a, L: Planned + Send + Sync, R: Threads + Wait + Abort + Sync>(
+fn work_beside<'a, L: Named + Send + Sync, R: Threads + Wait + Abort + Sync>(
     rt: &R,
     alloc: Global,
-    board: &Mutex<Board<'a, L>>,
+    board: &Mutex<MemoryBoard<'a, L>>,
     share: Share<L>,
     mut theirs: Share<L>,
     plan: &Plan<'a>,
-    other: &Plan<'a>,
-    keyed: &Plan<'a>,
-    later: &Plan<'a>,
-    coarse: &Plan<'a>,
-) -> Result<(Ended<L>, Share<L>), BoardFault>
-    requires { IsPlanOf L.input L.mode L.first plan.now }
-{
+    strangers: &[Plan<'a>],
+) -> Result<(Ended<L>, Share<L>), BoardFault> {
     let (claims, seat) = Claims::new(alloc, plan.len())?;
     let (ended, _) = thread::join(
         rt,
         || -> Ended<L>
-            requires { IsPlanOf L.input L.mode L.first plan.now
-                × (claims.count ≡ length plan.now.spans)
-                × IsSeatOf claims seat }
+            requires { (claims.count ≡ length plan.now.spans) × IsSeatOf claims seat }
         { worker(rt, plan, board, &claims, seat, share, 0, &Yielding) },
-        || deposit_all(rt, board, &mut theirs, plan, other, keyed, later, coarse),
+        || deposit_all(rt, board, &mut theirs, plan, strangers),
     );
     Ok((ended, theirs))
 }
 
-fn beside_on<'a, L: Planned + Send + Sync, R: Threads + Wait + Abort + Sync>(
+fn beside_on<'a, L: Named + Send + Sync, R: Threads + Wait + Abort + Sync>(
     rt: &R,
     alloc: Global,
     plan: &Plan<'a>,
-    other: &Plan<'a>,
-    keyed: &Plan<'a>,
-    later: &Plan<'a>,
-    coarse: &Plan<'a>,
+    strangers: &[Plan<'a>],
     blank: Blank,
 ) -> Result<(), Fail>
     requires name { blank.name ≡ L.name }
@@ -160,9 +156,7 @@ fn beside_on<'a, L: Planned + Send + Sync, R: Threads + Wait + Abort + Sync>(
     assert!(rt; share.parts() == 128);
     let theirs = share.split();
     let board = Mutex::new(board);
-    let (ended, mut theirs) = work_beside(
-        rt, alloc, &board, share, theirs, plan, other, keyed, later, coarse,
-    )?;
+    let (ended, mut theirs) = work_beside(rt, alloc, &board, share, theirs, plan, strangers)?;
     let mut board = board.into_inner();
     assert_eq!(rt; ended.seat.claimed().len(), plan.len());
     assert_eq!(rt;
@@ -174,17 +168,29 @@ fn beside_on<'a, L: Planned + Send + Sync, R: Threads + Wait + Abort + Sync>(
     Ok(())
 }
 
-fn beside<R: Threads + Wait + Abort + Sync>(
+fn beside<'a, R: Threads + Wait + Abort + Sync>(
     rt: &R,
     alloc: Global,
-    plan: &Plan,
-    other: &Plan,
-    keyed: &Plan,
-    later: &Plan,
-    coarse: &Plan,
+    plan: &Plan<'a>,
+    strangers: &[Plan<'a>],
 ) -> Result<(), Fail> {
-    let blank = Blank::new(128);
-    beside_on::<Brand, R>(rt, alloc, plan, other, keyed, later, coarse, blank)
+    beside_on::<Brand, R>(rt, alloc, plan, strangers, Blank::new(128))
+}
+
+// Plans over other bytes, in another mode, at another first chunk, and by another cutting.
+fn strangers_of<'a>(
+    rt: &impl Abort,
+    alloc: Global,
+    input: &'a [u8],
+    zeros: &'a [u8],
+) -> Result<[Plan<'a>; 4], BoardFault> {
+    assert!(rt; input.len() <= 1 << 20);
+    Ok([
+        by_grain(alloc, zeros, 1)?,
+        Plan::new(alloc, input, Mode::keyed(&[7; 32]), 1)?,
+        Plan::at(alloc, input, Mode::hash(), 16, 1)?,
+        by_grain(alloc, input, 2)?,
+    ])
 }
 
 // The two run some times, so that each gets ahead of the other now and then.
@@ -194,22 +200,33 @@ fn an_honest_worker_beside_a_hostile_one(rt: HostRuntime) -> Result<(), Fail> {
     let input = pattern(alloc, 16 * 1024)?;
     let zeros = vec![in alloc; 0; 16 * 1024]?;
     let plan = by_grain(alloc, &input, 1)?;
-    let other = by_grain(alloc, &zeros, 1)?;
-    let keyed = Plan::new(alloc, &input, Mode::keyed(&[7; 32]), 1)?;
-    let later = Plan::at(alloc, &input, Mode::hash(), 16, 1)?;
-    let coarse = by_grain(alloc, &input, 2)?;
+    let strangers = strangers_of(&rt, alloc, &input, &zeros)?;
     for _ in 0..20usize {
-        beside(&rt, alloc, &plan, &other, &keyed, &later, &coarse)?;
+        beside(&rt, alloc, &plan, &strangers)?;
     }
     Ok(())
 }
 
-// A board takes nothing of another plan, and sweeps its own input.
-fn alone_on<'a, L: Planned>(
+// Deposits all spans of a plan that is not the board's: none is taken.
+fn deposit_in_vain<'a, L: Named>(
+    rt: &impl Abort,
+    board: &mut MemoryBoard<'a, L>,
+    share: &mut Share<L>,
+    stranger: &Plan<'a>,
+) {
+    assert!(rt; !board.is_over(stranger));
+    for i in 0..stranger.len() {
+        let done = stranger.job(i).expect(rt, "a job").work();
+        deposit_checked(rt, board, share, done, false);
+    }
+}
+
+// A board takes one of its spans once and nothing of other plans, and sweeps its own input.
+fn alone_on<'a, L: Named>(
     rt: &impl Abort,
     alloc: Global,
     plan: &Plan<'a>,
-    other: &Plan<'a>,
+    strangers: &[Plan<'a>; 4],
     blank: Blank,
 ) -> Result<(), Fail>
     requires name { blank.name ≡ L.name }
@@ -218,24 +235,40 @@ fn alone_on<'a, L: Planned>(
     requires own { IsPlanOf L.input L.mode L.first plan.now }
 {
     let (mut board, mut share) = open_board::<L>(alloc, plan, blank)?;
-    assert!(rt; board.is_over(plan) && !board.is_over(other));
-    for i in 0..other.len() {
-        let done = other.job(i).expect(rt, "a job").work();
-        deposit_checked(rt, &mut board, &mut share, done, false);
+    assert!(rt; board.is_over(plan) && board.is_over(&strangers[3]));
+    for _ in 0..2usize {
+        let done = plan.job(2).expect(rt, "a job").work();
+        deposit_checked(rt, &mut board, &mut share, done, true);
     }
-    assert_eq!(rt; sweep(&mut board, &mut share), 5);
+    deposit_in_vain(rt, &mut board, &mut share, &strangers[0]);
+    deposit_in_vain(rt, &mut board, &mut share, &strangers[1]);
+    deposit_in_vain(rt, &mut board, &mut share, &strangers[2]);
+    assert_eq!(rt; board.open_span(2), Some(span(3, 1)));
+    assert_eq!(rt; counts(&board, &share), (1, 4, 1));
+    assert_eq!(rt; sweep(&mut board, &mut share), 4);
     assert_root(rt, &board, plan.input());
     Ok(())
 }
 
-fn alone(rt: &impl Abort, alloc: Global, plan: &Plan, other: &Plan) -> Result<(), Fail> {
-    alone_on::<Brand>(rt, alloc, plan, other, Blank::new(128))
+fn alone<'a>(
+    rt: &impl Abort,
+    alloc: Global,
+    plan: &Plan<'a>,
+    strangers: &[Plan<'a>; 4],
+) -> Result<(), Fail> {
+    alone_on::<Brand>(rt, alloc, plan, strangers, Blank::new(128))
 }
 
 #[test]
-fn a_board_over_another_plan(rt: HostRuntime) -> Result<(), Fail> {
-    let input = pattern(rt.alloc(), 5 * 1024)?;
-    let plan = by_grain(rt.alloc(), &[7; 5 * 1024], 1)?;
-    let other = by_grain(rt.alloc(), &input, 1)?;
-    alone(&rt, rt.alloc(), &plan, &other)
+fn doubles_and_strangers(rt: HostRuntime) -> Result<(), Fail> {
+    let alloc = rt.alloc();
+    let input = pattern(alloc, 5 * 1024)?;
+    let zeros = vec![in alloc; 0; 5 * 1024]?;
+    let plan = by_grain(alloc, &input, 1)?;
+    alone(
+        &rt,
+        alloc,
+        &plan,
+        &strangers_of(&rt, alloc, &input, &zeros)?,
+    )
 }

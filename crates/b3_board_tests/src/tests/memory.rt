@@ -6,7 +6,7 @@ ghost use Rattle.b3_board.specs.Seats.{IsSeatOf};
 
 use super::{deposit, open_board, span, sweep};
 use b3_board::{
-    Board, BoardFault, Claims, OpenGate, Plan, Planned, Seat, Share, default_grain, worker,
+    BoardFault, Claims, MemoryBoard, Named, OpenGate, Plan, Seat, Share, default_grain, worker,
 };
 use b3_core::{Mode, Span};
 use std::alloc::Global;
@@ -59,7 +59,7 @@ fn part_by_cutting<'a>(
 }
 
 // The chunks that a new board of the plan leaves to its sweep.
-fn swept_on<'a, L: Planned>(
+fn swept_on<'a, L: Named>(
     rt: &impl Abort,
     alloc: Global,
     plan: &Plan<'a>,
@@ -124,9 +124,9 @@ pub(super) fn last_growth(alloc: Global) -> Result<(), BoardFault> {
 }
 
 // A share of all parts is split and joined, and audited. One part is handed over.
-fn share_calls<'a, L: Planned>(
+fn share_calls<'a, L: Named>(
     rt: &impl Abort,
-    board: &mut Board<'a, L>,
+    board: &mut MemoryBoard<'a, L>,
     share: &mut Share<L>,
 ) -> Share<L> {
     assert!(rt; share.parts() == 128 && share.chunks() == 0);
@@ -138,15 +138,14 @@ fn share_calls<'a, L: Planned>(
 
 // A worker goes through the spans, its seat is joined, and the claims are closed. How many chunks it deposited, and how
 // many claims there were.
-fn claim_calls<'a, L: Planned, R: Wait + Abort>(
+fn claim_calls<'a, L: Named, R: Wait + Abort>(
     rt: &R,
     plan: &Plan<'a>,
-    board: &Mutex<Board<'a, L>>,
+    board: &Mutex<MemoryBoard<'a, L>>,
     claims: Claims,
     mut seat: Seat,
     theirs: Share<L>,
 ) -> (u64, usize)
-    requires plan { IsPlanOf L.input L.mode L.first plan.now }
     requires count { claims.count ≡ length plan.now.spans }
     requires own { IsSeatOf claims seat }
 {
@@ -161,7 +160,7 @@ fn claim_calls<'a, L: Planned, R: Wait + Abort>(
 // Makes a board and claims, then perhaps calls everything that is said to take no memory: seats and shares are split
 // and joined, the share is audited, work is deposited and refused, a worker runs, the board is swept and the claims
 // are closed.
-fn growths_on<'a, L: Planned, R: Wait + Abort>(
+fn growths_on<'a, L: Named, R: Wait + Abort>(
     rt: &R,
     alloc: Global,
     plan: &Plan<'a>,

@@ -1,81 +1,30 @@
-// Runs behind gates that say that they hold no worker, as the program's gate does, and yet wait.
+// Runs behind gates that wait.
 
+use super::meeting::{AllAtOnce, TURNS};
 use super::memory::{by_cutting, by_grain};
-use super::workers::run;
-use super::{pattern, root_of, span};
-use b3_board::{CHUNKS_A_THREAD, Gate};
+use super::workers::{assert_report, run};
+use super::{pattern, span};
+use b3_board::Gate;
 use b3_core::{CHUNK_LEN, Mode, top};
-use std::sync::atomic::{AtomicBool, AtomicU64, Ordering};
+use std::sync::atomic::{AtomicBool, Ordering};
 use std::test::Fail;
 use std::thread;
 
-// For how many turns, each of which yields the processor, a gate waits at most.
-const TURNS: u64 = 1_000_000;
+// How many bytes of input each worker of these runs has.
+const WORK_LEN: usize = 128 * CHUNK_LEN;
 
-// Waits until so many different workers have come, and keeps which workers and which spans came, a bit for each.
-#[derive(Drop)]
-struct Meeting {
-    wanted: u32,
-    workers: AtomicU64,
-    spans: AtomicU64,
-    calls: AtomicU64,
-    is_missed: AtomicBool,
-}
-
-impl Meeting {
-    fn new(wanted: u32) -> Meeting {
-        Meeting {
-            wanted,
-            workers: AtomicU64::new(0),
-            spans: AtomicU64::new(0),
-            calls: AtomicU64::new(0),
-            is_missed: AtomicBool::new(false),
-        }
-    }
-
-    fn have_come(&self) -> bool {
-        self.workers.load(Ordering::SeqCst).count_ones() >= self.wanted
-    }
-
-    // All have come, and none of them waited in vain for another.
-    fn have_met(&self) -> bool {
-        self.have_come() && !self.is_missed.load(Ordering::SeqCst)
-    }
-}
-
-impl Gate for Meeting {
-    fn pass(&self, worker: usize, span: usize) {
-        self.workers.fetch_or(1 << (worker % 64), Ordering::SeqCst);
-        self.spans.fetch_or(1 << (span % 64), Ordering::SeqCst);
-        self.calls.fetch_add(1, Ordering::SeqCst);
-        for _ in 0..TURNS {
-            if self.have_come() || self.is_missed.load(Ordering::SeqCst) {
-                return;
-            }
-            thread::yield_now();
-        }
-        self.is_missed.store(true, Ordering::SeqCst);
-    }
-
-    fn may_hold(&self) -> bool {
-        false
-    }
-}
-
-// As many workers as are asked for are between their claim and the lock at the same time, where the input is large
-// enough for as many threads.
+// As many workers as are asked for are between their claim and the lock at the same time.
 #[test]
 fn all_workers_at_once(rt: HostRuntime) -> Result<(), Fail> {
-    let input = pattern(rt.alloc(), 64 * CHUNKS_A_THREAD as usize * CHUNK_LEN)?;
+    let input = pattern(rt.alloc(), 64 * WORK_LEN)?;
     for workers in [2u32, 3, 4, 64] {
-        let part = &input[..workers as usize * CHUNKS_A_THREAD as usize * CHUNK_LEN];
+        let part = &input[..workers as usize * WORK_LEN];
         let plan = by_grain(rt.alloc(), part, 64)?;
-        let gate = Meeting::new(workers);
+        let gate = AllAtOnce::new(workers);
         let report = run(&rt, rt.alloc(), &plan, workers, &gate)?;
-        assert!(&rt; gate.have_met(), "{workers} workers");
-        assert_eq!(&rt; gate.workers.load(Ordering::SeqCst).count_ones(), workers);
-        assert_eq!(&rt; report.root.node(), root_of(&rt, part));
-        assert_eq!(&rt; report.swept, 0);
+        assert!(&rt; gate.workers.have_met(), "{workers} workers");
+        assert_eq!(&rt; gate.workers.guests().count_ones(), workers);
+        assert_report(&rt, &report, part, 0, plan.len(), workers);
     }
     Ok(())
 }
@@ -83,14 +32,15 @@ fn all_workers_at_once(rt: HostRuntime) -> Result<(), Fail> {
 // The gate is told the worker's number and then the span's: two workers over eight spans.
 #[test]
 fn numbers_of_workers_and_of_spans(rt: HostRuntime) -> Result<(), Fail> {
-    let input = pattern(rt.alloc(), 2 * CHUNKS_A_THREAD as usize * CHUNK_LEN)?;
+    let input = pattern(rt.alloc(), 2 * WORK_LEN)?;
     let plan = by_grain(rt.alloc(), &input, 32)?;
     assert_eq!(&rt; plan.len(), 8);
-    let gate = Meeting::new(2);
+    let gate = AllAtOnce::new(2);
     run(&rt, rt.alloc(), &plan, 2, &gate)?;
-    assert_eq!(&rt; gate.workers.load(Ordering::SeqCst), 0b11);
-    assert_eq!(&rt; gate.spans.load(Ordering::SeqCst), 0xff);
-    assert_eq!(&rt; gate.calls.load(Ordering::SeqCst), 8);
+    assert_eq!(&rt;
+        (gate.workers.guests(), gate.spans(), gate.calls()),
+        (0b11, 0xff, 8)
+    );
     Ok(())
 }
 
@@ -118,10 +68,6 @@ impl Gate for BesideALongSpan<'_> {
             1 => self.wait_beside(),
             _ => self.is_long_deposited.store(true, Ordering::SeqCst),
         }
-    }
-
-    fn may_hold(&self) -> bool {
-        false
     }
 }
 

@@ -3,7 +3,7 @@
 ghost use Rattle.std.specs.Prelude.{◌<◌};
 
 use super::memory::by_cutting;
-use super::{in_order, pattern, root_of, span};
+use super::{in_order, pattern, span};
 use b3_core::{Span, left};
 use std::alloc::{AllocError, Global};
 use std::process::Abort;
@@ -94,7 +94,7 @@ fn random_cuttings_and_orders(rt: HostRuntime) -> Result<(), Fail> {
             assert!(&rt; other < order.len());
             order.swap(i, other);
         }
-        in_order(&rt, alloc, &plan, &order, &root_of(&rt, part))?;
+        in_order(&rt, alloc, &plan, &order, 1)?;
     }
     Ok(())
 }

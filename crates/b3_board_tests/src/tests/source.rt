@@ -2,17 +2,18 @@
 
 ghost use Rattle.std.specs.Prelude.{◌≡◌, ℕ, ◌+◌, ◌≤◌, List, drop, length, take, Some, None};
 
+use super::meeting::{AllAtOnce, Meeting, Yielding};
 use super::memory::last_growth;
-use super::workers::{TwoAtOnce, Yielding, sum_of};
-use super::{pattern, root_of};
-use b3_board::{BoardFault, CHUNKS_A_THREAD, Gate, OpenGate, Report, Source, hash_source};
-use b3_core::{CHUNK_LEN, Mode, chunks, top};
+use super::pattern;
+use super::workers::assert_report;
+use b3_board::{BoardFault, Gate, OpenGate, Report, Source, hash_source};
+use b3_core::{CHUNK_LEN, Mode, chunks};
 use std::alloc::Global;
 use std::process::Abort;
 use std::sync::Wait;
 use std::sync::atomic::{AtomicU64, Ordering};
 use std::test::Fail;
-use std::thread::{self, Threads};
+use std::thread::Threads;
 
 // Copies bytes from a place on, as many as are there and the room takes, and gives their number.
 fn read_bytes(bytes: &[u8], place: u64, room: &mut [u8]) -> usize
@@ -37,8 +38,8 @@ impl<'a> Source for Told<'a> {
 
     ghost sure = { λ source end. end ≤ length source.bytes.now };
 
-    fn read_at(&self, place: u64, room: &mut [u8]) -> Option<usize> {
-        Some(read_bytes(self.bytes, place, room))
+    fn read_at(&self, offset: u64, buffer: &mut [u8]) -> Option<usize> {
+        Some(read_bytes(self.bytes, offset, buffer))
     }
 }
 
@@ -49,22 +50,33 @@ enum Bad {
     Short,
 }
 
-// Bytes in memory of which nothing is told. Read `bad` of them is refused, or lacks its last byte.
+// Bytes in memory of which nothing is told. Read `bad` of them is refused, or lacks its last byte. Each read waits
+// until as many as are wanted run at once.
 #[derive(Drop)]
 struct Silent<'a> {
     bytes: &'a [u8],
     reads: AtomicU64,
     bad: u64,
     how: Bad,
+    readers: Meeting,
 }
 
 impl<'a> Silent<'a> {
+    // No read is bad.
+    fn good(bytes: &'a [u8], wanted: u32) -> Silent<'a> {
+        Silent {
+            readers: Meeting::new(wanted),
+            ..Silent::new(bytes, u64::MAX, Bad::Refused)
+        }
+    }
+
     fn new(bytes: &'a [u8], bad: u64, how: Bad) -> Silent<'a> {
         Silent {
             bytes,
             reads: AtomicU64::new(0),
             bad,
             how,
+            readers: Meeting::new(0),
         }
     }
 }
@@ -74,73 +86,17 @@ impl<'a> Source for Silent<'a> {
 
     ghost sure = { λ _ _. ⊥ };
 
-    fn read_at(&self, place: u64, room: &mut [u8]) -> Option<usize> {
-        let count = read_bytes(self.bytes, place, room);
-        if self.reads.fetch_add(1, Ordering::SeqCst) != self.bad {
+    fn read_at(&self, offset: u64, buffer: &mut [u8]) -> Option<usize> {
+        let count = read_bytes(self.bytes, offset, buffer);
+        let read = self.reads.fetch_add(1, Ordering::SeqCst);
+        self.readers.attend(read);
+        if read != self.bad {
             return Some(count);
         }
         match self.how {
             Bad::Refused => None,
             Bad::Short => Some(count.saturating_sub(1)),
         }
-    }
-}
-
-// Bytes in memory. The reads wait until `wanted` of them run at once, each for at most a million turns.
-#[derive(Drop)]
-struct Meeting<'a> {
-    bytes: &'a [u8],
-    wanted: u64,
-    inside: AtomicU64,
-    met: AtomicU64,
-}
-
-impl<'a> Meeting<'a> {
-    fn new(bytes: &'a [u8], wanted: u64) -> Meeting<'a> {
-        Meeting {
-            bytes,
-            wanted,
-            inside: AtomicU64::new(0),
-            met: AtomicU64::new(0),
-        }
-    }
-
-    fn wait(&self) {
-        for _ in 0..1_000_000u64 {
-            if self.inside.load(Ordering::SeqCst) >= self.wanted {
-                self.met.store(1, Ordering::SeqCst);
-            }
-            if self.met.load(Ordering::SeqCst) == 1 {
-                return;
-            }
-            thread::yield_now();
-        }
-    }
-}
-
-impl<'a> Source for Meeting<'a> {
-    ghost told = { λ source. None };
-
-    ghost sure = { λ _ _. ⊥ };
-
-    fn read_at(&self, place: u64, room: &mut [u8]) -> Option<usize> {
-        self.inside.fetch_add(1, Ordering::SeqCst);
-        self.wait();
-        self.inside.fetch_sub(1, Ordering::SeqCst);
-        Some(read_bytes(self.bytes, place, room))
-    }
-}
-
-// Counts who passes, and lets the others go on.
-#[derive(Drop)]
-struct Counting {
-    passes: AtomicU64,
-}
-
-impl Gate for Counting {
-    fn pass(&self, _worker: usize, _span: usize) {
-        self.passes.fetch_add(1, Ordering::SeqCst);
-        thread::yield_now();
     }
 }
 
@@ -181,24 +137,12 @@ fn read_part<R: Threads + Wait + Sync, G: Gate + Sync>(
     hash_part(rt, alloc, source, place, len, 2, workers, &mut room, gate)
 }
 
-// Each span of two chunks was claimed once.
-fn assert_claimed(rt: &impl Abort, report: &Report, spans: u64) {
-    assert_eq!(rt; report.claimed.len() as u64, spans);
-    for i in 0..spans {
-        assert!(rt; report.claimed.contains(&(i as u32)), "span {i}");
-    }
-}
-
-// The root is `top` of the bytes, kept by a board, each span was claimed once, and all chunks were deposited.
+// The report of spans of two chunks.
 fn assert_read(rt: &impl Abort, found: Option<Report>, bytes: &[u8], first: u64, workers: u32) {
-    assert!(rt; bytes.len() <= 1 << 20 && first <= 1 << 20);
-    let count = chunks(bytes.len() as u64);
+    assert!(rt; bytes.len() <= 1 << 30);
+    let spans = chunks(bytes.len() as u64).div_ceil(2);
     let report = found.expect(rt, "a root");
-    assert_eq!(rt; report.root.node(), top(&Mode::hash(), first, bytes));
-    assert!(rt; report.root.kept());
-    assert_claimed(rt, &report, count.div_ceil(2));
-    assert_eq!(rt; report.shares.len(), workers as usize);
-    assert_eq!(rt; (sum_of(&report), report.swept), (count, 0));
+    assert_report(rt, &report, bytes, first, spans as usize, workers);
 }
 
 // Reads a part of some bytes by 1, 2, 3, 4 and 64 workers.
@@ -214,7 +158,7 @@ fn assert_part<R: Threads + Wait + Abort + Sync, G: Gate + Sync>(
         .get(place..place.saturating_add(len))
         .expect(rt, "a part");
     for workers in [1u32, 2, 3, 4, 64] {
-        let source = Silent::new(bytes, u64::MAX, Bad::Refused);
+        let source = Silent::good(bytes, 0);
         let found = read_part(rt, alloc, &source, place as u64, len as u64, workers, gate)?;
         assert_read(rt, found, part, place as u64 / 1024, workers);
     }
@@ -240,8 +184,7 @@ fn assert_lengths<R: Threads + Wait + Abort + Sync, G: Gate + Sync>(
 
 #[test]
 fn each_length_around_spans(rt: HostRuntime) -> Result<(), Fail> {
-    assert_lengths(&rt, rt.alloc(), 1000, &OpenGate)?;
-    assert_lengths(&rt, rt.alloc(), 1000, &Yielding)
+    assert_lengths(&rt, rt.alloc(), 1000, &OpenGate)
 }
 
 // The second of two regions: its chunks are numbered from its own first, and what stands after it is not read.
@@ -254,7 +197,7 @@ fn each_length_of_a_region_after_another(rt: HostRuntime) -> Result<(), Fail> {
 #[test]
 fn too_few_bytes(rt: HostRuntime) -> Result<(), Fail> {
     let input = pattern(rt.alloc(), 9 * 1024)?;
-    let source = Silent::new(input.as_slice(), u64::MAX, Bad::Refused);
+    let source = Silent::good(input.as_slice(), 0);
     for len in [9 * 1024 + 1u64, 10 * 1024, 13 * 1024] {
         let found = read_part(&rt, rt.alloc(), &source, 0, len, 2, &OpenGate)?;
         assert!(&rt; found.is_none(), "{len} bytes");
@@ -294,14 +237,14 @@ fn two_readers_a_thousand_times(rt: HostRuntime) -> Result<(), Fail> {
     let input = pattern(rt.alloc(), 64 * 1024)?;
     let all = input.as_slice();
     for _ in 0..1000usize {
-        let source = Silent::new(all, u64::MAX, Bad::Refused);
-        let gate = Counting {
-            passes: AtomicU64::new(0),
-        };
+        let source = Silent::good(all, 0);
+        let gate = AllAtOnce::new(2);
         let found = read_part(&rt, rt.alloc(), &source, 0, 64 * 1024, 2, &gate)?;
         assert_read(&rt, found, all, 0, 2);
-        assert_eq!(&rt; source.reads.load(Ordering::SeqCst), 32);
-        assert_eq!(&rt; gate.passes.load(Ordering::SeqCst), 32);
+        assert_eq!(&rt;
+            (source.reads.load(Ordering::SeqCst), gate.calls()),
+            (32, 32)
+        );
     }
     Ok(())
 }
@@ -344,67 +287,41 @@ fn told_or_not(rt: HostRuntime) -> Result<(), Fail> {
     let mut room = [0; 3 * 2048];
     let found = hash_part(&rt, rt.alloc(), &told, 0, 5000, 2, 3, &mut room, &OpenGate)?;
     assert_read(&rt, found, &bytes, 0, 3);
-    let silent = Silent::new(&bytes, u64::MAX, Bad::Refused);
+    let silent = Silent::good(&bytes, 0);
     let found = read_part(&rt, rt.alloc(), &silent, 0, 5000, 3, &OpenGate)?;
     assert_read(&rt, found, &bytes, 0, 3);
     Ok(())
 }
 
-// Reads the input in spans of so many chunks as make a thread worth its start, by a worker for each.
-fn assert_readers_at_once<R: Threads + Wait + Abort + Sync>(
-    rt: &R,
-    alloc: Global,
-    input: &[u8],
-    workers: u32,
-) -> Result<(), Fail> {
-    let source = Meeting::new(input, workers as u64);
-    let mut room = vec![in alloc; 0u8; input.len()]?;
-    let len = input.len() as u64;
-    let room = room.as_mut_slice();
-    let found = hash_part(
-        rt,
-        alloc,
-        &source,
-        0,
-        len,
-        CHUNKS_A_THREAD,
-        workers,
-        room,
-        &OpenGate,
-    )?;
-    assert_eq!(rt; source.met.load(Ordering::SeqCst), 1, "{workers} readers");
-    let report = found.expect(rt, "a root");
-    assert_eq!(rt; report.root.node(), root_of(rt, input));
-    Ok(())
-}
-
-// Behind a gate that holds no worker, as many workers read at once as were asked for.
+// As many workers read at once as were asked for, and as many are behind the gate.
 #[test]
-fn readers_at_once(rt: HostRuntime) -> Result<(), Fail> {
-    let len = CHUNKS_A_THREAD as usize * CHUNK_LEN;
-    let input = pattern(rt.alloc(), 64 * len)?;
-    for workers in [2usize, 3, 4, 64] {
-        assert_readers_at_once(&rt, rt.alloc(), &input[..workers * len], workers as u32)?;
+fn workers_at_once_over_a_source(rt: HostRuntime) -> Result<(), Fail> {
+    let input = pattern(rt.alloc(), 64 * 2048)?;
+    for workers in [2, 3, 4, 64u32] {
+        let part = &input[..workers as usize * 2048];
+        let len = part.len() as u64;
+        let source = Silent::good(part, workers);
+        let found = read_part(&rt, rt.alloc(), &source, 0, len, workers, &OpenGate)?;
+        assert!(&rt; source.readers.have_met(), "{workers} readers");
+        assert_read(&rt, found, part, 0, workers);
+
+        let source = Silent::good(part, 0);
+        let gate = AllAtOnce::new(workers);
+        let found = read_part(&rt, rt.alloc(), &source, 0, len, workers, &gate)?;
+        assert!(&rt; gate.workers.have_met(), "{workers} workers");
+        let report = found.expect(&rt, "a root");
+        for share in report.shares.iter() {
+            assert_eq!(&rt; *share, 2, "{workers} workers");
+        }
+        assert_read(&rt, Some(report), part, 0, workers);
     }
-    Ok(())
-}
-
-#[test]
-fn two_at_once_over_a_source(rt: HostRuntime) -> Result<(), Fail> {
-    let bytes = [7; 4096];
-    let source = Silent::new(&bytes, u64::MAX, Bad::Refused);
-    let gate = TwoAtOnce::new();
-    let report = read_part(&rt, rt.alloc(), &source, 0, 4096, 2, &gate)?.expect(&rt, "a root");
-    assert!(&rt; gate.has_met());
-    assert_eq!(&rt; report.shares.as_slice(), [2u64, 2].as_slice());
-    assert_read(&rt, Some(report), &bytes, 0, 2);
     Ok(())
 }
 
 #[test]
 fn refused_runs_over_a_source(rt: HostRuntime) -> Result<(), Fail> {
     let bytes = [7; 4096];
-    let source = Silent::new(&bytes, u64::MAX, Bad::Refused);
+    let source = Silent::good(&bytes, 0);
     for (len, grain, workers, fault) in [
         (4096u64, 2u64, 0u32, BoardFault::BadWorkers),
         (4096, 2, 65, BoardFault::BadWorkers),
@@ -431,7 +348,7 @@ fn refused_runs_over_a_source(rt: HostRuntime) -> Result<(), Fail> {
 // How many of two runs of four workers ended with an answer: one that meets want of memory is made again.
 fn answers_of_two<R: Threads + Wait + Abort + Sync>(rt: &R, alloc: Global) -> u32 {
     let bytes = [7; 20 * 1024];
-    let source = Silent::new(&bytes, u64::MAX, Bad::Refused);
+    let source = Silent::good(&bytes, 0);
     let mut answers = 0u32;
     for _ in 0..2usize {
         match read_part(rt, alloc, &source, 0, 20 * 1024, 4, &Yielding) {

@@ -4,7 +4,6 @@ use crate::tests::contents::pattern;
 use crate::tests::ended::{check, check_files};
 use crate::tests::recording::{RecordedFiles, file_of};
 use crate::tests::{EMPTY, check_options, joined, lines_tally, tally};
-use b3_board::OpenGate;
 use b3_check::{Answer, RunFault, Tally, Verdict, judge};
 use b3_lines::read_line;
 use std::test::Fail;
@@ -167,7 +166,7 @@ fn a_list_that_has_no_end(rt: HostRuntime) -> Result<(), Fail> {
     let files = [file_of(alloc, "l", pattern(alloc, 2_000)?.as_slice())?];
     let mut shelf = RecordedFiles::new(alloc, &files, 1, u64::MAX);
     let asked = check_options(false, 10_000);
-    let ended = check(&rt, alloc, &mut shelf, &["l"], &asked, &OpenGate)?;
+    let ended = check(&rt, alloc, &mut shelf, &["l"], &asked)?;
     ended.assert(&rt, "2,000 reads", Err(RunFault::EndlessInput), b"", b"");
     Ok(())
 }

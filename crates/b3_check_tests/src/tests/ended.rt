@@ -51,7 +51,8 @@ fn ended_of(
     })
 }
 
-fn strings(alloc: Global, names: &[&str]) -> Result<Vec<String>, Fail> {
+/// These names.
+pub fn strings(alloc: Global, names: &[&str]) -> Result<Vec<String>, Fail> {
     let mut strings = Vec::new(alloc);
     for name in names {
         strings.push(String::from_str(alloc, name)?)?;
@@ -71,13 +72,7 @@ fn assert_bounds(rt: &impl Abort, workers: u32, turns: u64, largest: u64)
 }
 
 /// Sums names into these sinks.
-pub fn sum_into<
-    R: Abort + Threads + Wait + Sync,
-    S: Shelf + Send + Sync,
-    O: Sink,
-    E: Sink,
-    G: Gate + Sync,
->(
+pub fn sum_into<R: Abort + Threads + Wait + Sync, S: Shelf + Send + Sync, O: Sink, E: Sink>(
     rt: &R,
     alloc: Global,
     shelf: &mut S,
@@ -85,7 +80,6 @@ pub fn sum_into<
     out: &mut O,
     err: &mut E,
     options: &SumOptions,
-    gate: &G,
 ) -> Result<Tally, RunFault>
     requires shelf { S.failures shelf.old < 2 ^ 63 }
     requires out { O.failures out.old < 2 ^ 63 }
@@ -95,35 +89,48 @@ pub fn sum_into<
     assert!(rt; !(options.form == Form::Raw && names.len() != 1));
     assert!(rt; options.length <= 1_048_576 && options.seek <= 1_000);
     assert_bounds(rt, options.workers, options.turns, options.largest);
-    run_sum(rt, alloc, shelf, names, out, err, options, gate)
+    run_sum(rt, alloc, shelf, names, out, err, options, &OpenGate)
 }
 
 /// Sums names of a shelf.
-pub fn sum<R: Abort + Threads + Wait + Sync, S: Shelf + Send + Sync, G: Gate + Sync>(
+pub fn sum<R: Abort + Threads + Wait + Sync, S: Shelf + Send + Sync>(
     rt: &R,
     alloc: Global,
     shelf: &mut S,
     names: &[&str],
     options: &SumOptions,
-    gate: &G,
 ) -> Result<Ended, Fail>
     requires { S.failures shelf.old < 2 ^ 63 }
 {
     let names = strings(alloc, names)?;
     let mut out = MemorySink::new(alloc);
     let mut err = MemorySink::new(alloc);
-    let answer = sum_into(rt, alloc, shelf, &names, &mut out, &mut err, options, gate);
+    let answer = sum_into(rt, alloc, shelf, &names, &mut out, &mut err, options);
+    ended_of(alloc, answer, &out, &err)
+}
+
+/// Sums a name of a shelf behind a gate.
+pub fn sum_behind<R: Abort + Threads + Wait + Sync, S: Shelf + Send + Sync, G: Gate + Sync>(
+    rt: &R,
+    alloc: Global,
+    shelf: &mut S,
+    name: &str,
+    options: &SumOptions,
+    gate: &G,
+) -> Result<Ended, Fail>
+    requires { S.failures shelf.old < 2 ^ 63 }
+{
+    let names = strings(alloc, &[name])?;
+    let mut out = MemorySink::new(alloc);
+    let mut err = MemorySink::new(alloc);
+    assert!(rt; names.len() == 1 && options.length == 32 && options.seek == 0);
+    assert_bounds(rt, options.workers, options.turns, options.largest);
+    let answer = run_sum(rt, alloc, shelf, &names, &mut out, &mut err, options, gate);
     ended_of(alloc, answer, &out, &err)
 }
 
 /// Checks lists, and writes into these sinks.
-pub fn check_into<
-    R: Abort + Threads + Wait + Sync,
-    S: Shelf + Send + Sync,
-    O: Sink,
-    E: Sink,
-    G: Gate + Sync,
->(
+pub fn check_into<R: Abort + Threads + Wait + Sync, S: Shelf + Send + Sync, O: Sink, E: Sink>(
     rt: &R,
     alloc: Global,
     shelf: &mut S,
@@ -131,7 +138,6 @@ pub fn check_into<
     out: &mut O,
     err: &mut E,
     options: &CheckOptions,
-    gate: &G,
 ) -> Result<Tally, RunFault>
     requires shelf { S.failures shelf.old < 2 ^ 63 }
     requires out { O.failures out.old < 2 ^ 63 }
@@ -139,24 +145,42 @@ pub fn check_into<
 {
     assert!(rt; lists.len() <= 10_000);
     assert_bounds(rt, options.workers, options.turns, options.largest);
-    run_check(rt, alloc, shelf, lists, out, err, options, gate)
+    run_check(rt, alloc, shelf, lists, out, err, options, &OpenGate)
 }
 
 /// Checks lists of a shelf.
-pub fn check<R: Abort + Threads + Wait + Sync, S: Shelf + Send + Sync, G: Gate + Sync>(
+pub fn check<R: Abort + Threads + Wait + Sync, S: Shelf + Send + Sync>(
     rt: &R,
     alloc: Global,
     shelf: &mut S,
     lists: &[&str],
     options: &CheckOptions,
-    gate: &G,
 ) -> Result<Ended, Fail>
     requires { S.failures shelf.old < 2 ^ 63 }
 {
     let lists = strings(alloc, lists)?;
     let mut out = MemorySink::new(alloc);
     let mut err = MemorySink::new(alloc);
-    let answer = check_into(rt, alloc, shelf, &lists, &mut out, &mut err, options, gate);
+    let answer = check_into(rt, alloc, shelf, &lists, &mut out, &mut err, options);
+    ended_of(alloc, answer, &out, &err)
+}
+
+/// Checks the list `l` of a shelf behind a gate.
+pub fn check_behind<R: Abort + Threads + Wait + Sync, S: Shelf + Send + Sync, G: Gate + Sync>(
+    rt: &R,
+    alloc: Global,
+    shelf: &mut S,
+    options: &CheckOptions,
+    gate: &G,
+) -> Result<Ended, Fail>
+    requires { S.failures shelf.old < 2 ^ 63 }
+{
+    let lists = strings(alloc, &["l"])?;
+    let mut out = MemorySink::new(alloc);
+    let mut err = MemorySink::new(alloc);
+    assert!(rt; lists.len() == 1);
+    assert_bounds(rt, options.workers, options.turns, options.largest);
+    let answer = run_check(rt, alloc, shelf, &lists, &mut out, &mut err, options, gate);
     ended_of(alloc, answer, &out, &err)
 }
 
@@ -195,7 +219,7 @@ pub fn sum_files<R: Abort + Threads + Wait + Sync>(
     options: &SumOptions,
 ) -> Result<Ended, Fail> {
     let mut shelf = shelf_of(alloc, files)?;
-    sum(rt, alloc, &mut shelf, names, options, &OpenGate)
+    sum(rt, alloc, &mut shelf, names, options)
 }
 
 /// Checks lists of these files in memory, behind an open gate.
@@ -207,5 +231,5 @@ pub fn check_files<R: Abort + Threads + Wait + Sync>(
     options: &CheckOptions,
 ) -> Result<Ended, Fail> {
     let mut shelf = shelf_of(alloc, files)?;
-    check(rt, alloc, &mut shelf, lists, options, &OpenGate)
+    check(rt, alloc, &mut shelf, lists, options)
 }

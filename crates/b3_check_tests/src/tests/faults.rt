@@ -4,7 +4,6 @@ use crate::tests::checks::{THREE_COMPLAINTS, THREE_LINES, THREE_VERDICTS};
 use crate::tests::ended::{Ended, check_files, check_into};
 use crate::tests::recording::{PieceSink, RecordedFiles, file_of};
 use crate::tests::{EMPTY, ONE_BYTE, check_options, joined, lines_tally, tally};
-use b3_board::OpenGate;
 use b3_check::{RunFault, Tally};
 use std::process::Abort;
 use std::sync::Wait;
@@ -31,9 +30,7 @@ fn three_lines<R: AllocGlobal + Abort + Threads + Wait + Sync>(
     let mut err = PieceSink::new(alloc, 1, err_before);
     let lists = [String::from_str(alloc, "l")?];
     let asked = check_options(false, 1_000);
-    let answer = check_into(
-        rt, alloc, &mut shelf, &lists, &mut out, &mut err, &asked, &OpenGate,
-    );
+    let answer = check_into(rt, alloc, &mut shelf, &lists, &mut out, &mut err, &asked);
     Ok(Ended {
         answer,
         out: out.bytes,

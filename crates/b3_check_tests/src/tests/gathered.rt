@@ -2,9 +2,9 @@
 
 ghost use Rattle.std.specs.Prelude.{◌≡◌, ◌^◌, ◌<◌, [], None, Some, false, true};
 
-use crate::tests::ended::{check_into, sum_into};
+use crate::tests::ended::{check_into, strings, sum_into};
+use crate::tests::recording::give;
 use crate::tests::{EMPTY, check_options, joined, options, tally};
-use b3_board::OpenGate;
 use b3_check::{CannotRead, NoContent, RunFault, Shelf, Sink, SinkFailed, Tally};
 use b3_hash::Hasher;
 use std::alloc::Global;
@@ -15,7 +15,7 @@ use std::test::Fail;
 use std::thread::Threads;
 
 /// Empty files, of which all but `slow` are soon read, and a list under `l`. They note how many bytes were written
-/// before `slow` was begun, and before `late` was peeked.
+/// before `slow` was begun, and before `late` was hashed.
 #[derive(Drop)]
 struct EmptyFiles<'a> {
     list: &'a [u8],
@@ -57,13 +57,12 @@ impl Shelf for EmptyFiles<'_> {
     }
 
     fn read(&mut self, room: &mut [u8]) -> Result<usize, CannotRead> {
-        let count = self.rest.len().min(room.len());
-        room[..count].copy_from_slice(&self.rest[..count]);
-        self.rest = &self.rest[count..];
+        let count = give(self.rest, usize::MAX, room);
+        self.rest = self.rest.get(count..).unwrap_or(b"");
         Ok(count)
     }
 
-    fn peek(&self, name: &str, _longest: u64, _room: &mut [u8], _hasher: &mut Hasher) -> bool {
+    fn hash_whole(&self, name: &str, _longest: u64, _room: &mut [u8], _hasher: &mut Hasher) -> bool {
         if name == "late" {
             let written = self.written.load(Ordering::SeqCst);
             self.before_late.store(written, Ordering::SeqCst);
@@ -151,7 +150,7 @@ fn summed<R: Abort + Threads + Wait + Sync>(
 {
     let mut asked = options(2, 0);
     asked.workers = 2;
-    sum_into(rt, alloc, shelf, names, out, err, &asked, &OpenGate)
+    sum_into(rt, alloc, shelf, names, out, err, &asked)
 }
 
 // The lines of 1,000 names go in as many writes as there are rounds, of 64, 128, 256, 512 names and the rest; or each
@@ -179,9 +178,7 @@ fn assert_writes<R: Abort + Threads + Wait + Sync>(
     let mut err = PatientSink::new(alloc, may_wait, &written);
     let mut asked = check_options(false, 100_000);
     asked.workers = 2;
-    let answer = check_into(
-        rt, alloc, &mut shelf, &lists, &mut out, &mut err, &asked, &OpenGate,
-    );
+    let answer = check_into(rt, alloc, &mut shelf, &lists, &mut out, &mut err, &asked);
     let verdicts = repeated(alloc, 1_000, "a: OK\n")?;
     assert_eq!(rt; answer, Ok(tally(1_000, 0, 0)));
     assert_eq!(rt; out.bytes.as_slice(), verdicts.as_bytes());
@@ -200,31 +197,47 @@ fn a_line_that_may_not_wait_is_written_alone(rt: HostRuntime) -> Result<(), Fail
     assert_writes(&rt, rt.alloc(), false, 1_000)
 }
 
-// Lines do not wait for a name that is begun in its turn; its own waits for those after it.
+// Lines do not wait for a name that is begun in its turn; its own waits for those after it that are known.
 #[test]
 fn lines_before_a_slow_name_are_written(rt: HostRuntime) -> Result<(), Fail> {
     let alloc = rt.alloc();
-    let line = joined(alloc, &[EMPTY, "  a\n"])?;
-    let slow = joined(alloc, &[EMPTY, "  slow\n"])?;
-    let three = repeated(alloc, 3, line.as_str())?;
-    let written = AtomicU64::new(0);
-    let mut shelf = EmptyFiles::new(b"", &written);
-    let mut out = PatientSink::new(alloc, true, &written);
-    let mut err = PatientSink::new(alloc, true, &written);
-    let mut names = Vec::new(alloc);
-    for name in ["a", "a", "a", "slow", "a", "a", "a"] {
-        names.push(String::from_str(alloc, name)?)?;
+    let three = format!(in alloc; "{EMPTY}  a\n{EMPTY}  a\n{EMPTY}  a\n")?;
+    let slow = format!(in alloc; "{EMPTY}  slow\n")?;
+    for (names, lines, before_slow, writes) in [
+        (
+            ["a", "a", "a", "slow", "a", "a", "a"].as_slice(),
+            [three.as_str(), slow.as_str(), three.as_str()],
+            three.len(),
+            2u64,
+        ),
+        (
+            ["slow", "slow"].as_slice(),
+            ["", slow.as_str(), slow.as_str()],
+            slow.len(),
+            2,
+        ),
+    ] {
+        let written = AtomicU64::new(0);
+        let mut shelf = EmptyFiles::new(b"", &written);
+        let mut out = PatientSink::new(alloc, true, &written);
+        let mut err = PatientSink::new(alloc, true, &written);
+        let answer = summed(
+            &rt,
+            alloc,
+            &strings(alloc, names)?,
+            &mut shelf,
+            &mut out,
+            &mut err,
+        );
+        assert_eq!(rt; answer, Ok(tally(names.len() as u64, 0, 0)));
+        assert_eq!(rt; out.bytes.as_slice(), joined(alloc, &lines)?.as_bytes());
+        assert_eq!(rt; shelf.before_slow, before_slow as u64);
+        assert_eq!(rt; out.writes, writes);
     }
-    let answer = summed(&rt, alloc, &names, &mut shelf, &mut out, &mut err);
-    let all = joined(alloc, &[three.as_str(), slow.as_str(), three.as_str()])?;
-    assert_eq!(rt; answer, Ok(tally(7, 0, 0)));
-    assert_eq!(rt; out.bytes.as_slice(), all.as_bytes());
-    assert_eq!(rt; shelf.before_slow, three.len() as u64);
-    assert_eq!(rt; out.writes, 2);
     Ok(())
 }
 
-// Lines of two mebibytes end a round early: the eleventh of twenty names is peeked only after some of them are written.
+// Lines of two mebibytes end a round early: the eleventh of twenty names is hashed only after some of them are written.
 #[test]
 fn long_lines_end_a_round(rt: HostRuntime) -> Result<(), Fail> {
     let alloc = rt.alloc();
@@ -241,9 +254,7 @@ fn long_lines_end_a_round(rt: HostRuntime) -> Result<(), Fail> {
         let mut asked = options(2, 0);
         asked.workers = 2;
         asked.length = length;
-        let answer = sum_into(
-            &rt, alloc, &mut shelf, &names, &mut out, &mut err, &asked, &OpenGate,
-        );
+        let answer = sum_into(&rt, alloc, &mut shelf, &names, &mut out, &mut err, &asked);
         assert_eq!(rt; answer, Ok(tally(20, 0, 0)));
         let before = shelf.before_late.load(Ordering::SeqCst);
         assert_eq!(rt; before > 0, is_round_over);

@@ -2,46 +2,77 @@
 
 ghost use Rattle.std.specs.Prelude.{◌≡◌, [], None, false};
 
+use crate::tests::meeting::Meeting;
+use crate::tests::recording::give;
 use b3_check::{CannotRead, NoContent, Shelf};
 use b3_hash::Hasher;
 use std::alloc::Global;
+use std::sync::atomic::{AtomicU64, Ordering};
 
-/// A name is a letter and a number of bytes: `g` is a file of so many bytes of the content, `f` one of as many that
-/// fails at its second read, and `m` is not there. The name `l` has the list.
+/// How files are given.
+#[derive(Clone, Copy, Debug, PartialEq, Eq)]
+pub enum Access {
+    /// In order alone.
+    InOrder,
+    /// At places too.
+    AtPlaces,
+    /// Whole too, beside one another, where they are short.
+    Beside,
+}
+
+/// A name is a letter and a number of bytes, which are 0 to 250, over and over: `g` is a file that is given as the
+/// access says, `f` fails at its second read, and `m` is not there. The name `l` has the list.
 #[derive(Drop)]
 pub struct LetteredFiles<'a> {
-    content: &'a [u8],
+    // as many of those bytes as a read gives, and 250 more
+    kept: &'a [u8],
     list: &'a [u8],
-    rest: &'a [u8],
-    // how many bytes a read gives at most, and how many reads come before one that fails
-    most: usize,
-    reads_before: u64,
-    // whether a name may be peeked
-    is_open: bool,
+    access: Access,
+    /// How many bytes a read gives at most.
+    pub most: usize,
+    /// How long a file says that it is, where that is not so.
+    pub hint: Option<u64>,
+    /// How many calls for bytes at a place come before one that is at fault, and how many bytes that one gives, if any.
+    pub calls_before: u64,
+    pub given: Option<usize>,
+    /// Where threads that ask at once wait for one another.
+    pub readers: Meeting,
+    calls: AtomicU64,
+    longest: AtomicU64,
+    // the file that is begun: whether it is the list, its bytes, their number, its place, and the reads before one that
+    // fails
     is_begun: bool,
+    is_list: bool,
+    bytes: &'a [u8],
+    len: u64,
+    place: u64,
+    reads_before: u64,
     failures: u64,
     // the names that were begun, each with a line feed
     begun: Vec<u8>,
 }
 
 impl<'a> LetteredFiles<'a> {
-    pub fn new(
-        alloc: Global,
-        content: &'a [u8],
-        list: &'a [u8],
-        most: usize,
-        is_open: bool,
-    ) -> LetteredFiles<'a>
+    pub fn new(alloc: Global, kept: &'a [u8], list: &'a [u8], access: Access) -> LetteredFiles<'a>
         ensures { ⟦<LetteredFiles<'a> as Shelf>⟧.failures result ≡ 0 }
     {
         LetteredFiles {
-            content,
+            kept,
             list,
-            rest: &[],
-            most,
-            reads_before: u64::MAX,
-            is_open,
+            access,
+            most: usize::MAX,
+            hint: None,
+            calls_before: u64::MAX,
+            given: None,
+            readers: Meeting::new(0),
+            calls: AtomicU64::new(0),
+            longest: AtomicU64::new(0),
             is_begun: false,
+            is_list: false,
+            bytes: &[],
+            len: 0,
+            place: 0,
+            reads_before: u64::MAX,
             failures: 0,
             begun: Vec::new(alloc),
         }
@@ -55,6 +86,11 @@ impl<'a> LetteredFiles<'a> {
         self.failures
     }
 
+    /// How long a content might have been that was last asked for as a whole.
+    pub fn longest(&self) -> u64 {
+        self.longest.load(Ordering::SeqCst)
+    }
+
     // Whether the name was kept among those that were begun.
     fn is_kept(&mut self, name: &str) -> bool
         ensures failures { self.new.failures ≡ self.old.failures }
@@ -64,13 +100,23 @@ impl<'a> LetteredFiles<'a> {
     }
 }
 
+// The bytes of a list or of any other file of so many, from a place on and as far as they are kept.
+fn bytes_from<'a>(bytes: &'a [u8], is_list: bool, len: u64, place: u64) -> &'a [u8] {
+    let first = if is_list { place } else { place % 251 };
+    let left = len.saturating_sub(place);
+    let found = bytes.get(first as usize..);
+    let rest = found.unwrap_or(b"");
+    let part = rest.get(..left as usize);
+    part.unwrap_or(rest)
+}
+
 /// The number in a name.
-pub fn number_in(name: &str) -> usize {
-    let mut number = 0usize;
+pub fn number_in(name: &str) -> u64 {
+    let mut number = 0u64;
     for byte in name.as_bytes() {
         if byte.is_ascii_digit() {
             let digit = byte.saturating_sub(b'0');
-            number = number.saturating_mul(10).saturating_add(digit as usize);
+            number = number.saturating_mul(10).saturating_add(digit as u64);
         }
     }
     number
@@ -94,11 +140,14 @@ impl Shelf for LetteredFiles<'_> {
             return Err(NoContent::Missing);
         }
         self.reads_before = if name.starts_with("f") { 1 } else { u64::MAX };
-        self.rest = if name == "l" {
-            self.list
-        } else {
-            &self.content[..number_in(name).min(self.content.len())]
-        };
+        self.is_list = name == "l";
+        self.bytes = self.kept;
+        self.len = number_in(name);
+        if self.is_list {
+            self.bytes = self.list;
+            self.len = self.list.len() as u64;
+        }
+        self.place = 0;
         self.is_begun = true;
         Ok(())
     }
@@ -113,17 +162,47 @@ impl Shelf for LetteredFiles<'_> {
             return Err(CannotRead);
         }
         self.reads_before -= 1;
-        let count = self.rest.len().min(room.len()).min(self.most);
-        room[..count].copy_from_slice(&self.rest[..count]);
-        self.rest = &self.rest[count..];
+        let place = self.place;
+        let rest = bytes_from(self.bytes, self.is_list, self.len, place);
+        let count = give(rest, self.most, room);
+        self.place = place.saturating_add(count as u64);
         Ok(count)
     }
 
-    fn peek(&self, name: &str, longest: u64, _room: &mut [u8], hasher: &mut Hasher) -> bool {
-        if !self.is_open || !name.starts_with("g") {
+    fn hash_whole(&self, name: &str, longest: u64, _room: &mut [u8], hasher: &mut Hasher) -> bool {
+        if self.access != Access::Beside || !name.starts_with("g") {
             return false;
         }
-        let len = number_in(name).min(self.content.len());
-        len as u64 <= longest && hasher.update(&self.content[..len]).is_ok()
+        self.longest.store(longest, Ordering::SeqCst);
+        self.readers
+            .attend(self.calls.fetch_add(1, Ordering::SeqCst));
+        let len = number_in(name);
+        match self.kept.get(..len as usize) {
+            Some(content) if len <= longest => hasher.update(content).is_ok(),
+            _ => false,
+        }
+    }
+
+    // Two bytes are asked for to see where the file ends.
+    fn read_at(&self, place: u64, room: &mut [u8]) -> Option<usize> {
+        let call = self.calls.fetch_add(1, Ordering::SeqCst);
+        if room.len() > 2 {
+            self.readers.attend(call);
+        }
+        let most = if call == self.calls_before {
+            self.given?
+        } else {
+            usize::MAX
+        };
+        let rest = bytes_from(self.bytes, self.is_list, self.len, place);
+        Some(give(rest, most, room))
+    }
+
+    fn len_hint(&self) -> u64 {
+        match self.hint {
+            _ if self.is_list || self.access == Access::InOrder => 0,
+            Some(hint) => hint,
+            None => self.len,
+        }
     }
 }

@@ -46,8 +46,7 @@ impl Meeting {
     }
 }
 
-/// Holds each worker until so many different ones have come, and counts the calls. It does not say that it holds
-/// nobody, so each worker has a thread, up to the spans.
+/// Holds each worker until so many different ones have come, and counts the calls.
 #[derive(Drop)]
 pub struct AllAtOnce {
     pub workers: Meeting,
@@ -72,14 +71,5 @@ impl Gate for AllAtOnce {
     fn pass(&self, worker: usize, _span: usize) {
         self.calls.fetch_add(1, Ordering::SeqCst);
         self.workers.attend(worker as u64);
-    }
-}
-
-/// Lets the others go on. It may hold a worker too.
-pub struct Yielding;
-
-impl Gate for Yielding {
-    fn pass(&self, _worker: usize, _span: usize) {
-        thread::yield_now();
     }
 }

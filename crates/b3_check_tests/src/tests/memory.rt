@@ -5,7 +5,6 @@ ghost use Rattle.std.specs.Prelude.{◌≡◌, ◌^◌, ◌<◌};
 use crate::tests::checks::{THREE_COMPLAINTS, THREE_LINES, THREE_VERDICTS};
 use crate::tests::ended::{check_into, sum_into};
 use crate::tests::{check_options, lines_tally, options, tally};
-use b3_board::OpenGate;
 use b3_check::{Answer, MemoryShelf, MemorySink, RunFault, Shelf, Sink, Tally, Verdict, judge};
 use b3_lines::read_line;
 use std::alloc::{AllocError, Global};
@@ -126,9 +125,7 @@ fn refused_memory_of_a_sum_of_two_files(rt: HostRuntime) -> Result<(), Fail> {
     let mut out = MemorySink::new(alloc);
     let mut err = MemorySink::new(alloc);
     let asked = options(10, 0);
-    let answer = sum_into(
-        &rt, alloc, &mut shelf, &names, &mut out, &mut err, &asked, &OpenGate,
-    );
+    let answer = sum_into(&rt, alloc, &mut shelf, &names, &mut out, &mut err, &asked);
     compare_refused(
         &rt,
         answer,
@@ -151,9 +148,7 @@ fn refused_memory_of_a_check_of_three_lines(rt: HostRuntime) -> Result<(), Fail>
     let mut out = MemorySink::new(alloc);
     let mut err = MemorySink::new(alloc);
     let asked = check_options(false, 1_000);
-    let answer = check_into(
-        &rt, alloc, &mut shelf, &lists, &mut out, &mut err, &asked, &OpenGate,
-    );
+    let answer = check_into(&rt, alloc, &mut shelf, &lists, &mut out, &mut err, &asked);
     compare_refused(
         &rt,
         answer,

@@ -8,7 +8,6 @@ use crate::tests::ended::{check_into, sum_into};
 use crate::tests::plain_lines::{plain_line, tagged_line};
 use crate::tests::recording::{Answer, File, PieceSink, RecordedFiles, State, content_of};
 use crate::tests::report::{Report, check_report, sum_report};
-use b3_board::OpenGate;
 use b3_check::{CheckOptions, Form, KeyChoice, RunFault, SumOptions, Tally};
 use std::alloc::Global;
 use std::process::Abort;
@@ -306,11 +305,7 @@ impl Seen {
         match answer {
             Ok(tally) => {
                 self.ok = self.ok.saturating_add(tally.ok);
-                self.failed = self
-                    .failed
-                    .saturating_add(tally.differing)
-                    .saturating_add(tally.unreadable)
-                    .saturating_add(tally.malformed);
+                self.failed = self.failed.saturating_add(tally.failed);
                 self.lists = self.lists.saturating_add(tally.lists);
             }
             Err(fault) => self.faults.push(fault)?,
@@ -385,9 +380,7 @@ fn random_sums(rt: HostRuntime) -> Result<(), Fail> {
         let mut shelf = RecordedFiles::new(alloc, files.as_slice(), most, calls_before);
         let mut out = PieceSink::new(alloc, chance.piece(), chance.calls_before(20));
         let mut err = PieceSink::new(alloc, chance.piece(), chance.calls_before(20));
-        let answer = sum_into(
-            &rt, alloc, &mut shelf, &names, &mut out, &mut err, &options, &OpenGate,
-        );
+        let answer = sum_into(&rt, alloc, &mut shelf, &names, &mut out, &mut err, &options);
         let answers = shelf.answers.as_slice();
         let report = sum_report(&rt, alloc, &options, names.as_slice(), answers)?;
         compare(&rt, seed, answer, &report, &out, &err);
@@ -422,9 +415,7 @@ fn random_checks(rt: HostRuntime) -> Result<(), Fail> {
         let mut shelf = RecordedFiles::new(alloc, files.as_slice(), most, calls_before);
         let mut out = PieceSink::new(alloc, chance.piece(), chance.calls_before(40));
         let mut err = PieceSink::new(alloc, chance.piece(), chance.calls_before(40));
-        let answer = check_into(
-            &rt, alloc, &mut shelf, &lists, &mut out, &mut err, &options, &OpenGate,
-        );
+        let answer = check_into(&rt, alloc, &mut shelf, &lists, &mut out, &mut err, &options);
         let answers = shelf.answers.as_slice();
         let report = check_report(&rt, alloc, &options, lists.as_slice(), answers)?;
         compare(&rt, seed, answer, &report, &out, &err);

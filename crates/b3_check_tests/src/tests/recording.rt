@@ -1,9 +1,19 @@
 // Devices that give and take pieces of any length, fail at one call, and record what was asked of them.
 
-ghost use Rattle.std.specs.Prelude.{◌≡◌, ◌<◌, [], false, None, Some, is_some};
+ghost use Rattle.std.specs.Prelude.{◌≡◌, ◌<◌, ◌≤◌, [], false, None, Some, is_some, length};
 
 use b3_check::{CannotRead, NoContent, Shelf, Sink, SinkFailed};
 use std::alloc::{AllocError, Global};
+
+/// Gives the first of these bytes, as many as the room takes and at most so many, and answers how many they are.
+pub fn give(bytes: &[u8], most: usize, room: &mut [u8]) -> usize
+    ensures within { result ≤ length room.old }
+    ensures len { length room.new ≡ length room.old }
+{
+    let count = bytes.len().min(room.len()).min(most);
+    room[..count].copy_from_slice(&bytes[..count]);
+    count
+}
 
 /// A name and its content.
 #[derive(Drop)]
@@ -173,10 +183,8 @@ impl Shelf for RecordedFiles<'_> {
             self.failures += 1;
             return Err(CannotRead);
         }
-        let count = answer.rest.len().min(room.len()).min(self.most);
-        let (piece, rest) = answer.rest.split_at(count);
-        room[..count].copy_from_slice(piece);
-        answer.rest = rest;
+        let count = give(answer.rest, self.most, room);
+        answer.rest = answer.rest.get(count..).unwrap_or(b"");
         if count == 0 {
             answer.state = State::Ended;
         }

@@ -62,14 +62,13 @@ impl<'a> Report<'a> {
         Some(answer)
     }
 
-    // The next answer, where it is whole. A name that may have so many bytes may be left unread after these, or after
-    // as many reads as a name may take.
+    // The next answer, where it is whole. A fault comes in its place where a name has more bytes than so many, and where
+    // it was left after as many reads as a name may take.
     fn next_whole(&mut self, rt: &impl Abort, name: &[u8], largest: u64) -> Option<&'a Answer<'a>> {
         self.fault = Some(RunFault::WriteFault);
         let answer = self.next(rt, name)?;
         let is_long = answer.bytes().len() as u64 > largest;
-        if answer.state != State::Begun {
-            assert!(rt; answer.is_unread() || !is_long);
+        if answer.is_unread() || (answer.state == State::Ended && !is_long) {
             self.fault = None;
             return Some(answer);
         }
@@ -99,8 +98,8 @@ impl<'a> Report<'a> {
         self.tally.ok = self.tally.ok.saturating_add(1);
     }
 
-    fn count_unreadable(&mut self) {
-        self.tally.unreadable = self.tally.unreadable.saturating_add(1);
+    fn count_failed(&mut self) {
+        self.tally.failed = self.tally.failed.saturating_add(1);
     }
 
     // The mode of the run, for which a key may be asked first.
@@ -140,7 +139,7 @@ impl<'a> Report<'a> {
     ) -> Result<bool, Fail> {
         let shown = shown(self.alloc, name)?;
         if matches!(options.form, Form::Named | Form::Tagged) && is_bad_name(name) {
-            self.count_unreadable();
+            self.count_failed();
             self.complain(&[b"b3sum: ", shown.as_slice(), b": bad name\n"])?;
             return Ok(true);
         }
@@ -148,7 +147,7 @@ impl<'a> Report<'a> {
             return Ok(false);
         };
         if answer.is_unread() {
-            self.count_unreadable();
+            self.count_failed();
             self.complain(&[b"b3sum: ", shown.as_slice(), b": cannot read\n"])?;
             return Ok(true);
         }
@@ -225,6 +224,7 @@ impl<'a> Report<'a> {
         reason: &str,
     ) -> Result<(), Fail> {
         let number = place.saturating_add(1).to_string(self.alloc)?;
+        self.count_failed();
         self.tally.malformed = self.tally.malformed.saturating_add(1);
         self.complain(&[b"b3sum: "])?;
         if options.warn {
@@ -249,10 +249,11 @@ impl<'a> Report<'a> {
         if answer.state == State::Missing && options.ignore_missing {
             self.tally.missing = self.tally.missing.saturating_add(1);
         } else if answer.is_unread() {
-            self.count_unreadable();
+            self.count_failed();
             self.say(&[shown, b": FAILED (cannot read)\n"])?;
         } else if b3_hash::hash(answer.bytes()).as_slice() != entry.digest.as_slice() {
             self.is_verified = true;
+            self.count_failed();
             self.tally.differing = self.tally.differing.saturating_add(1);
             self.say(&[shown, b": FAILED\n"])?;
         } else {
@@ -267,11 +268,7 @@ impl<'a> Report<'a> {
 
     // What is said at the end.
     fn warning(&mut self) -> Result<(), Fail> {
-        let counts = self.tally;
-        let failed = counts
-            .differing
-            .saturating_add(counts.unreadable)
-            .saturating_add(counts.malformed);
+        let failed = self.tally.failed;
         if failed > 0 {
             let count = failed.to_string(self.alloc)?;
             let checksums = checksums(failed);

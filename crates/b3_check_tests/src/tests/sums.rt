@@ -4,7 +4,6 @@ use crate::tests::contents::pattern;
 use crate::tests::ended::{Ended, sum, sum_files, sum_into};
 use crate::tests::recording::{PieceSink, RecordedFiles, file_of};
 use crate::tests::{EMPTY, KEY, KEYED_EMPTY, joined, options, tally};
-use b3_board::OpenGate;
 use b3_check::{Form, KeyChoice, RunFault};
 use std::process::Abort;
 use std::sync::Wait;
@@ -183,7 +182,7 @@ fn a_key_may_take_more_reads_than_a_file(rt: HostRuntime) -> Result<(), Fail> {
         let mut shelf = RecordedFiles::new(alloc, &files, 1, u64::MAX);
         let mut asked = options(1, 32);
         asked.key = KeyChoice::Keyed;
-        let ended = sum(&rt, alloc, &mut shelf, &[name], &asked, &OpenGate)?;
+        let ended = sum(&rt, alloc, &mut shelf, &[name], &asked)?;
         assert_eq!(&rt; ended.answer, expected, "{name}");
         assert!(&rt; ended.err.is_empty(), "{name}");
     }
@@ -211,14 +210,7 @@ fn a_content_and_its_last_read(rt: HostRuntime) -> Result<(), Fail> {
     for (length, largest) in [(99, 1_000), (100, 1_000), (100, 100), (100, 99)] {
         let files = [file_of(alloc, "-", pattern(alloc, length)?.as_slice())?];
         let mut shelf = RecordedFiles::new(alloc, &files, 1, u64::MAX);
-        let ended = sum(
-            &rt,
-            alloc,
-            &mut shelf,
-            &["-"],
-            &options(100, largest),
-            &OpenGate,
-        )?;
+        let ended = sum(&rt, alloc, &mut shelf, &["-"], &options(100, largest))?;
         if length == 99 {
             ended.assert(&rt, "99 bytes", Ok(tally(1, 0, 0)), line, b"");
         } else {
@@ -244,9 +236,7 @@ fn sum_by_bytes<R: AllocGlobal + Abort + Threads + Wait + Sync>(
     let mut err = PieceSink::new(alloc, 1, most);
     let names = [String::from_str(alloc, "-")?];
     let asked = options(2_000, 2_000);
-    let answer = sum_into(
-        rt, alloc, &mut shelf, &names, &mut out, &mut err, &asked, &OpenGate,
-    );
+    let answer = sum_into(rt, alloc, &mut shelf, &names, &mut out, &mut err, &asked);
     Ok(Ended {
         answer,
         out: out.bytes,
@@ -293,14 +283,7 @@ fn a_shelf_that_fails_in_mid_stream(rt: HostRuntime) -> Result<(), Fail> {
     let files = [file_of(alloc, "a", b"ten bytes.")?];
     for calls_before in 0..5 {
         let mut shelf = RecordedFiles::new(alloc, &files, 4, calls_before);
-        let ended = sum(
-            &rt,
-            alloc,
-            &mut shelf,
-            &["a", "a"],
-            &options(100, 100),
-            &OpenGate,
-        )?;
+        let ended = sum(&rt, alloc, &mut shelf, &["a", "a"], &options(100, 100))?;
         let complaint = b"b3sum: a: cannot read\n";
         ended.assert(&rt, "a, a", Ok(tally(1, 1, 0)), line, complaint);
     }

@@ -2,13 +2,17 @@ use Rattle.std.proofs.Common.{◌+◌}
 use Rattle.b3_board.specs.Regions.{region}
 use Rattle.b3_board.proofs.from_source.hash_source.Given as goal
 
+abbrev pub ghosts-read_on-L-Named : goal.ghosts-read_on-L-Named
+ghosts-read_on-L-Named g a = record {
+  input = region (g.S.Source.told a.plan.now.source.now) a.plan.now.offset a.plan.now.len;
+  mode = a.plan.now.mode;
+  first = a.plan.now.first;
+}
+
 abbrev pub ghosts-read_on-L-Sourced : goal.ghosts-read_on-L-Sourced
 ghosts-read_on-L-Sourced g a = record {
-  input = region (g.S.Source.told a.reading.now.source.now) a.reading.now.place a.reading.now.len;
-  mode = a.reading.now.mode;
-  first = a.reading.now.first;
-  grain = a.reading.now.grain;
-  sure = g.S.Source.sure a.reading.now.source.now (a.reading.now.place + a.reading.now.len);
+  grain = a.plan.now.grain;
+  sure = g.S.Source.sure a.plan.now.source.now (a.plan.now.offset + a.plan.now.len);
 }
 
 abbrev pub ghosts-read_on-L-Ledger : goal.ghosts-read_on-L-Ledger

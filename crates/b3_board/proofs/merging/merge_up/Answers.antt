@@ -9,5 +9,5 @@ partner-requires-clause-subtree g c =
     let now = c.loop-other.invariant in
     let here = c.loop-other.here in
     let subtree = now.sound.subtrees here (kept_some _ _ now.kept (now.sound.fits here)) in
-    let up = IsSubtree-had (chunks (g.T.Ground.known c.args.ground.now).len) _ _ (omega arith) subtree in
-    rw c.chunk_count-n.ensures.count up
+    let up = IsSubtree-had (chunks g.L.Named.input.len) _ _ (omega arith) subtree in
+    rw c.size-n.ensures.count up

@@ -4,40 +4,37 @@ use Rattle.b3_board.specs.Entries.{at, is_kept}
 use Rattle.b3_board.proofs.Partners.{what_is_kept}
 use Rattle.b3_board.proofs.OpenSpans.{none_open, root_there, root_top}
 use Rattle.b3_board.proofs.merging.root_of.Goals as goal
-use Rattle.b3_board.proofs.merging.root_of.Goals.{then-is_empty-via-then-is_empty, then-is_empty-via-else-is_empty+then-entries-chunk_count}
+use Rattle.b3_board.proofs.merging.root_of.Goals.{then-is_empty-via-then-is_empty, then-is_empty-via-else-is_empty+then-entries-size}
 
 pub returns-then-is_empty-clause-there : goal.returns-then-is_empty-clause-there
 returns-then-is_empty-clause-there g c = (
   λ h. absurd (false≢true h),
   λ none.
-      let of = g.T.Ground in
-      let on = c.args.ground.now in
-      let there = root_there (of.known on) (of.mode on) (of.first on) c.args.entries.now c.requires none in
+      let of = g.L.Named in
+      let there = root_there of.input of.mode of.first c.args.entries.now c.requires none in
       elim c.then-is_empty.branch [
         | then-is_empty-via-then-is_empty w ↦ absurd (search (rules, arith, there.2, w.if-is_empty.true))
-        | then-is_empty-via-else-is_empty+then-entries-chunk_count w ↦ absurd (omega (
+        | then-is_empty-via-else-is_empty+then-entries-size w ↦ absurd (omega (
           arith,
           there.1,
-          w.chunk_count.ensures.count,
-          w.if-entries-chunk_count.true,
+          w.size.ensures.count,
+          w.if-entries-size.true,
         ))
       ],
 )
 
 pub returns-in-Kept-clause-top : goal.returns-in-Kept-clause-top
 returns-in-Kept-clause-top g c =
-    let of = g.T.Ground in
-    let on = c.args.ground.now in
-    root_top (of.known on) (of.mode on) (of.first on) c.args.entries.now c.requires c.in-Kept.kept c.in-Kept.is
-    (search (rules, c.chunk_count.ensures.count))
+    let of = g.L.Named in
+    root_top of.input of.mode of.first c.args.entries.now c.requires c.in-Kept.kept c.in-Kept.is
+    (search (rules, c.size.ensures.count))
 
 pub returns-in-Kept-clause-there : goal.returns-in-Kept-clause-there
 returns-in-Kept-clause-there g c =
-    let of = g.T.Ground in
-    let on = c.args.ground.now in (
+    let of = g.L.Named in (
       λ h.
-          none_open (of.known on) (of.mode on) (of.first on) c.args.entries.now c.requires (ap is_kept c.in-Kept.is)
-          (search (rules, c.chunk_count.ensures.count)),
+          none_open of.input of.mode of.first c.args.entries.now c.requires (ap is_kept c.in-Kept.is)
+          (search (rules, c.size.ensures.count)),
       λ h. refl,
     )
 
@@ -45,9 +42,8 @@ pub returns-in_default-clause-there : goal.returns-in_default-clause-there
 returns-in_default-clause-there g c = (
   λ h. absurd (false≢true h),
   λ none.
-      let of = g.T.Ground in
-      let on = c.args.ground.now in
-      let there = root_there (of.known on) (of.mode on) (of.first on) c.args.entries.now c.requires none in
+      let of = g.L.Named in
+      let there = root_there of.input of.mode of.first c.args.entries.now c.requires none in
       let kept = what_is_kept (at c.args.entries.now 0).state there.0 in
       absurd (c.in_default.not-Kept kept.0 kept.1),
 )

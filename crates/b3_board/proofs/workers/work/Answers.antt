@@ -8,7 +8,7 @@ use Rattle.b3_board.proofs.workers.work.Goals as goal
 
 pub loop-i-preserved : goal.loop-i-preserved
 loop-i-preserved g c =
-    let spans = g.C.Course.spans c.args.course.now in
+    let spans = g.C.SpanHasher.spans c.args.hasher.now in
     let i = c.loop-i.i in
     let old = c.args.seat.now in
     let held = c.args.share.now in
@@ -17,7 +17,7 @@ loop-i-preserved g c =
     let next = c.try_claim.new.seat in
     let worked = c.loop-i.invariant.worked in
     let view = c.try_claim.ensures.view in
-    let inside : i < length seat.view.seen = omega (arith, c.loop-i.invariant.own.1) in
+    let inside : i < length seat.view.seen = omega (arith, c.loop-i.invariant.own.1, ap length c.cutting-i-end.ensures.spans) in
     record {
       own = c.try_claim.ensures.own;
       worked = elim c.if-try_claim.branch [

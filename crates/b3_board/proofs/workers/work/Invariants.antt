@@ -5,5 +5,5 @@ use Rattle.b3_board.proofs.workers.work.Given as goal
 abbrev pub invariant-loop-i : goal.invariant-loop-i
 invariant-loop-i g l = record {
   own : IsSeatOf l.claims l.seat;
-  worked : HasWorked (g.C.Course.spans l.course) l.i l.initial.seat l.initial.share l.seat l.share;
+  worked : HasWorked (g.C.SpanHasher.spans l.hasher) l.i l.initial.seat l.initial.share l.seat l.share;
 }

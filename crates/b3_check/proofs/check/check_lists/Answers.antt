@@ -20,9 +20,9 @@ returns-in_err-tally-clause-run g c =
     let stopped = rw c.in_ok-checker.ensures at c.in_err-tally.ensures.run in
     rw (p.1, p.2) (stopped_early_counted no_tally (warning_script c.args.options.now) stopped)
 
-pub returns-in_err-said-clause-run : goal.returns-in_err-said-clause-run
-returns-in_err-said-clause-run g c =
-    let p = err_from_is_err_and c.from_residual-in_err-said.result c.from_residual-in_err-said.ensures.1 in
+pub returns-in_err-message-clause-run : goal.returns-in_err-message-clause-run
+returns-in_err-message-clause-run g c =
+    let p = err_from_is_err_and c.from_residual-in_err-message.result c.from_residual-in_err-message.ensures.1 in
     let ran = rw c.in_ok-checker.ensures at c.in_ok-tally.ensures.run in
     rw p.1 (stopped_unsummed (warning_report c.args.options.now) ran p.2)
 
@@ -31,14 +31,14 @@ returns-in_err-say-clause-run g c =
     let p = err_from_is_err_and c.from_residual-in_err-say.result c.from_residual-in_err-say.ensures.1 in
     let ran = rw c.in_ok-checker.ensures at c.in_ok-tally.ensures.run in
     let said = c.in_err-say.ensures.said in
-    rw (p.1, p.2) (stopped_summing (warning_report c.args.options.now) _ ran c.in_ok-said.ensures said.0 (inl said.1))
+    rw (p.1, p.2) (stopped_summing (warning_report c.args.options.now) _ ran c.in_ok-message.ensures said.0 (inl said.1))
 
 pub returns-clause-run : goal.returns-clause-run
 returns-clause-run g c =
     let ran = rw c.in_ok-checker.ensures at c.in_ok-tally.ensures.run in
-    ran_summed (warning_report c.args.options.now) _ ran c.in_ok-said.ensures c.in_ok-say.ensures.said
+    ran_summed (warning_report c.args.options.now) _ ran c.in_ok-message.ensures c.in_ok-say.ensures.said
     (sym (tally_sum-none c.in_ok-tally.tally) ∙ ap (λ (p : Report). tally_sum c.in_ok-tally.tally p.tally)
-    (sym c.in_ok-said.ensures))
+    (sym c.in_ok-message.ensures))
 
 pub returns-clause-sure : goal.returns-clause-sure
 returns-clause-sure g c = runs_surely (check_limits c.args.options.now) _ _ _ (Ok c.in_ok-tally.tally)

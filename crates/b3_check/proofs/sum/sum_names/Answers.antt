@@ -2,8 +2,8 @@ use Rattle.std.proofs.Common.{◌<◌, ◌^◌, Err, arith, length, map, refl, s
 use Rattle.std.proofs.lemmas.List.{length-map}
 use Rattle.std.proofs.lemmas.Result.{err_from_is_err_and}
 use Rattle.b3_core.specs.declared.modes.Mode.{Mode}
-use Rattle.b3_check.specs.Desks.{scene_of}
-use Rattle.b3_check.specs.Digests.{output_of}
+use Rattle.b3_check.specs.Devices.{scene_of}
+use Rattle.b3_check.specs.Digests.{range_of}
 use Rattle.b3_check.specs.Runs.{HasRoom}
 use Rattle.b3_check.specs.Sums.{names_script}
 use Rattle.b3_check.proofs.RunLemmas.{mode_count, mode_room, runs_in_mode, runs_surely, stopped_at_once, stopped_in_mode}
@@ -15,11 +15,11 @@ returns-in_err-mode-clause-run g c =
     let p = err_from_is_err_and c.from_residual.result c.from_residual.ensures.1 in
     rw (p.1, p.2) (stopped_in_mode _ c.args.options.now.key _ _ _ _ c.in_err-mode.ensures.found)
 
-pub returns-in_err-worker-clause-run : goal.returns-in_err-worker-clause-run
-returns-in_err-worker-clause-run g c =
-    let p = err_from_is_err_and c.from_residual-in_err-worker.result c.from_residual-in_err-worker.ensures.1 in
+pub returns-in_err-engine-clause-run : goal.returns-in_err-engine-clause-run
+returns-in_err-engine-clause-run g c =
+    let p = err_from_is_err_and c.from_residual-in_err-engine.result c.from_residual-in_err-engine.ensures.1 in
     let options = c.args.options.now in
-    let next = λ (mode : Mode). names_script options.form (output_of mode options) (map string_bytes c.args.names.now)
+    let next = λ (mode : Mode). names_script options.form (range_of mode options) (map string_bytes c.args.names.now)
     in
     rw p.1 (runs_in_mode _ options.key c.in_ok-mode.mode next _ _ _ (Err p.0) c.in_ok-mode.ensures.found
     (stopped_at_once (next c.in_ok-mode.mode) _ p.0 p.2))
@@ -27,11 +27,11 @@ returns-in_err-worker-clause-run g c =
 pub returns-clause-run : goal.returns-clause-run
 returns-clause-run g c =
     let options = c.args.options.now in
-    let next = λ (mode : Mode). names_script options.form (output_of mode options) (map string_bytes c.args.names.now)
+    let next = λ (mode : Mode). names_script options.form (range_of mode options) (map string_bytes c.args.names.now)
     in
-    let run = rw (c.in_ok-worker.ensures.output, c.in_ok-worker.ensures.limits, c.limits.ensures) at c.run.ensures.run
+    let run = rw (c.in_ok-engine.ensures.range, c.in_ok-engine.ensures.limits, c.limits.ensures) at c.run.ensures.run
     in
-    let names = rw (tasks_script-names string_bytes (output_of c.in_ok-mode.mode options) options.form
+    let names = rw (tasks_script-names string_bytes (range_of c.in_ok-mode.mode options) options.form
     c.args.names.now) at run in
     runs_in_mode _ options.key c.in_ok-mode.mode next _ _ _ c.run.result c.in_ok-mode.ensures.found names
 
@@ -47,7 +47,7 @@ run-requires g c = λ _.
     let names = c.args.names.now in
     let seen = scene_of g.S.Shelf g.O.Sink g.E.Sink in
     let found = c.in_ok-mode.ensures.found in
-    let room : HasRoom (seen c.find_mode.new.desk) (length names) =
+    let room : HasRoom (seen c.find_mode.new.devices) (length names) =
     mode_room c.args.options.now.key c.in_ok-mode.mode _ _ (length names) found c.requires.room in (
       c.type_bounds.send-S,
       (
@@ -62,7 +62,7 @@ run-requires g c = λ _.
                 refl,
                 (
                   subst (λ n. n < 2 ^ 63) (sym (length-map names _)) (omega (arith, c.requires.names)),
-                  subst (λ n. HasRoom (seen c.find_mode.new.desk) n) (sym (length-map names _)) room,
+                  subst (λ n. HasRoom (seen c.find_mode.new.devices) n) (sym (length-map names _)) room,
                 ),
               ),
             ),

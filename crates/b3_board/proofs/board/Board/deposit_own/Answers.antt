@@ -4,15 +4,14 @@ use Rattle.std.proofs.lemmas.List.{with_items_is}
 use Rattle.std.specs.List.{Contains}
 use Rattle.std.specs.Vec.{with_items}
 use Rattle.b3_core.specs.declared.tree.Span.{Span}
-use Rattle.b3_board.specs.Entries.{at, kept_chunk, kept_count, open_span}
+use Rattle.b3_board.specs.Entries.{KeepsBoard, at, kept_chunk, kept_count, open_span}
 use Rattle.b3_board.specs.Pictures.{IsDeposit, IsLawful, Picture, Piece}
 use Rattle.b3_board.specs.declared.entries.Entry.{Entry}
-use Rattle.b3_board.specs.Spans.{IsNodeOf, has, in_memory, top_of}
+use Rattle.b3_board.specs.Spans.{IsNodeOf, has}
 use Rattle.b3_board.specs.declared.entries.State.TheVariants.{Open}
 use Rattle.b3_board.proofs.Deposits.{Contains-open, deposited, not_open}
-use Rattle.b3_board.proofs.KnownNodes.{in_memory-IsNodeOf}
 use Rattle.b3_board.proofs.Picturing.{lawful_picture, picture_of}
-use Rattle.b3_board.proofs.OpenSpans.{same_length}
+use Rattle.b3_board.proofs.OpenSpans.{open_count-closed, same_length}
 use Rattle.b3_board.proofs.board.Board.deposit_own.Goals as goal
 
 pub returns-in_default-clause-ok : goal.returns-in_default-clause-ok
@@ -21,7 +20,7 @@ returns-in_default-clause-ok g c =
     let none : (i : ℕ) → (at board.entries.items i).state ≡ Open → (at board.entries.items i).span ≢ c.own.inside.span =
     rw c.as_slice.ensures.value at c.in_default.ensures.none in
     let absent : ¬ Contains c.args.self.now.open_spans c.args.own.span =
-    subst (λ (p : Picture (List ℕ)). ¬ Contains p.open_spans c.args.own.span) c.self.view_is
+    subst (λ (p : Picture). ¬ Contains p.open_spans c.args.own.span) c.self.view_is
     (not_open board.entries.items c.args.own.span
     (λ i state_is span_is. none i state_is (span_is ∙ sym (ap (λ (d : Piece). d.span) c.own.view_is)))) in
     (λ h. absurd (false≢true h), λ own. absurd (absent own))
@@ -29,9 +28,10 @@ returns-in_default-clause-ok g c =
 pub returns-in_default-clause-lawful : goal.returns-in_default-clause-lawful
 returns-in_default-clause-lawful g c =
     let board = c.self.inside in
+    let l = g.L.Named in
     let kept = c.self.invariant in
     subst IsLawful c.self.view_is
-    (lawful_picture board.tree.input.now board.tree.mode board.tree.first board.entries.items kept.lawful
+    (lawful_picture l.input l.mode l.first board.entries.items kept.lawful
     board.account.chunks kept.booked)
 
 pub returns-clause-ok : goal.returns-clause-ok
@@ -40,31 +40,31 @@ returns-clause-ok g c =
     let found = rw c.as_slice.ensures.value at c.in-Some.ensures.found in
     let there = Contains-open board.entries.items c.in-Some.place c.args.own.span found.0 found.1 (found.2
     ∙ (ap (λ (d : Piece). d.span) c.own.view_is)) in
-    (λ h. subst (λ (p : Picture (List ℕ)). Contains p.open_spans c.args.own.span) c.self.view_is there, λ h. refl)
+    (λ h. subst (λ (p : Picture). Contains p.open_spans c.args.own.span) c.self.view_is there, λ h. refl)
 
 pub returns-clause-step : goal.returns-clause-step
 returns-clause-step g c =
     let board = c.self.inside in
-    let tree = c.self.inside.tree in
+    let l = g.L.Named in
     let found = rw c.as_slice.ensures.value at c.in-Some.ensures.found in
-    let opens : map open_span c.settle.new.entries ≡ set (map open_span board.entries.items) c.in-Some.place None =
-    search (rules, c.settle.ensures.opens, c.as_mut_slice.ensures.value) in
+    let opens : map open_span c.close_span.new.entries ≡ set (map open_span board.entries.items) c.in-Some.place None =
+    search (rules, c.close_span.ensures.opens, c.as_mut_slice.ensures.value) in
     let span_is = ap (λ (d : Piece). d.span) c.own.view_is in
     let closed : Span = (at board.entries.items c.in-Some.place).span in
-    let joins : (k : ℕ) → sum_by (kept_chunk k) c.settle.new.entries
+    let joins : (k : ℕ) → sum_by (kept_chunk k) c.close_span.new.entries
     ≡ sum_by (kept_chunk k) board.entries.items + has k closed.first closed.count =
-    λ k. search (rules, c.settle.ensures.chunks k, c.as_mut_slice.ensures.value) in
-    let of : List Entry → ℕ → Picture (List ℕ) = picture_of tree.input.now tree.mode tree.first in
-    let step = deposited tree.input.now tree.mode tree.first board.entries.items c.settle.new.entries c.in-Some.place
+    λ k. search (rules, c.close_span.ensures.chunks k, c.as_mut_slice.ensures.value) in
+    let of : List Entry → ℕ → Picture = picture_of l.input l.mode l.first in
+    let step = deposited l.input l.mode l.first board.entries.items c.close_span.new.entries c.in-Some.place
     c.args.own.span board.account.chunks found.1 (found.2 ∙ span_is) opens joins in
     let book_is = c.credit.ensures.chunks ∙ ap (λ (s : Span). board.account.chunks + s.count) span_is in
     let before = of board.entries.items board.account.chunks in
-    let booked = subst (λ (b : ℕ). IsDeposit before c.args.own.span (of c.settle.new.entries b)) (sym book_is) step in
-    let items : (with_items board.entries c.settle.new.entries).items ≡ c.settle.new.entries =
-    with_items_is board.entries c.settle.new.entries
-    (same_length board.entries.items c.settle.new.entries c.in-Some.place opens ∙ sym board.entries.ok.0) in
-    let after = of c.settle.new.entries c.credit.new.self.chunks in
-    let moved = subst (λ (p : Picture (List ℕ)). IsDeposit p c.args.own.span after) c.self.view_is booked in
+    let booked = subst (λ (b : ℕ). IsDeposit before c.args.own.span (of c.close_span.new.entries b)) (sym book_is) step in
+    let items : (with_items board.entries c.close_span.new.entries).items ≡ c.close_span.new.entries =
+    with_items_is board.entries c.close_span.new.entries
+    (same_length board.entries.items c.close_span.new.entries c.in-Some.place opens ∙ sym board.entries.ok.0) in
+    let after = of c.close_span.new.entries c.credit.new.self.chunks in
+    let moved = subst (λ (p : Picture). IsDeposit p c.args.own.span after) c.self.view_is booked in
     let P : List Entry → Type 0 =
     λ es. IsDeposit c.args.self.now c.args.own.span (of es c.credit.new.self.chunks) in
     subst P (sym items) moved
@@ -72,33 +72,60 @@ returns-clause-step g c =
 pub returns-clause-lawful : goal.returns-clause-lawful
 returns-clause-lawful g c =
     let board = c.self.inside in
-    let tree = c.self.inside.tree in
+    let l = g.L.Named in
     let found = rw c.as_slice.ensures.value at c.in-Some.ensures.found in
-    let count : sum_by kept_count c.settle.new.entries
+    let count : sum_by kept_count c.close_span.new.entries
     ≡ sum_by kept_count board.entries.items + (at board.entries.items c.in-Some.place).span.count =
-    search (rules, c.settle.ensures.count, c.as_mut_slice.ensures.value) in
-    let booked : sum_by kept_count c.settle.new.entries ≡ c.credit.new.self.chunks =
+    search (rules, c.close_span.ensures.count, c.as_mut_slice.ensures.value) in
+    let booked : sum_by kept_count c.close_span.new.entries ≡ c.credit.new.self.chunks =
     omega (arith, count, c.self.invariant.booked, c.credit.ensures.chunks, ap (λ (s : Span). s.count) found.2) in
-    let opens : map open_span c.settle.new.entries ≡ set (map open_span board.entries.items) c.in-Some.place None =
-    search (rules, c.settle.ensures.opens, c.as_mut_slice.ensures.value) in
-    let items : (with_items board.entries c.settle.new.entries).items ≡ c.settle.new.entries =
-    with_items_is board.entries c.settle.new.entries
-    (same_length board.entries.items c.settle.new.entries c.in-Some.place opens ∙ sym board.entries.ok.0) in
+    let opens : map open_span c.close_span.new.entries ≡ set (map open_span board.entries.items) c.in-Some.place None =
+    search (rules, c.close_span.ensures.opens, c.as_mut_slice.ensures.value) in
+    let items : (with_items board.entries c.close_span.new.entries).items ≡ c.close_span.new.entries =
+    with_items_is board.entries c.close_span.new.entries
+    (same_length board.entries.items c.close_span.new.entries c.in-Some.place opens ∙ sym board.entries.ok.0) in
     let P : List Entry → Type 0 =
-    λ es. IsLawful (picture_of tree.input.now tree.mode tree.first es c.credit.new.self.chunks) in
+    λ es. IsLawful (picture_of l.input l.mode l.first es c.credit.new.self.chunks) in
     subst P (sym items)
-    (lawful_picture tree.input.now tree.mode tree.first c.settle.new.entries c.settle.ensures.lawful
+    (lawful_picture l.input l.mode l.first c.close_span.new.entries c.close_span.ensures.lawful
     c.credit.new.self.chunks booked)
 
-pub settle-requires-clause-top : goal.settle-requires-clause-top
-settle-requires-clause-top g c =
+pub invariant_of-self : goal.invariant_of-self
+invariant_of-self g c =
     let board = c.self.inside in
-    let tree = board.tree in
-    let kept = c.self.invariant in
+    let l = g.L.Named in
     let found = rw c.as_slice.ensures.value at c.in-Some.ensures.found in
-    let span = (at board.entries.items c.in-Some.place).span in
-    let is : c.own.inside.node ≡ top_of tree.input.now tree.mode tree.first span =
-    search (rules, found.2, kept.input_is, kept.mode_is, kept.first_is, c.own.inside.is_top) in
-    let node : IsNodeOf (in_memory tree.input.now) tree.mode tree.first span c.own.inside.node =
-    in_memory-IsNodeOf tree.input.now tree.mode tree.first span c.own.inside.node is in
-    rw c.as_mut_slice.ensures.value node
+    let count : sum_by kept_count c.close_span.new.entries
+    ≡ sum_by kept_count board.entries.items + (at board.entries.items c.in-Some.place).span.count =
+    search (rules, c.close_span.ensures.count, c.as_mut_slice.ensures.value) in
+    let opens : map open_span c.close_span.new.entries ≡ set (map open_span board.entries.items) c.in-Some.place None =
+    search (rules, c.close_span.ensures.opens, c.as_mut_slice.ensures.value) in
+    let items : (with_items board.entries c.close_span.new.entries).items ≡ c.close_span.new.entries =
+    with_items_is board.entries c.close_span.new.entries
+    (same_length board.entries.items c.close_span.new.entries c.in-Some.place opens ∙ sym board.entries.ok.0) in
+    let P : List Entry → Type 0 =
+    λ es. KeepsBoard l.input l.mode l.first g.H.Backing.grain g.H.Backing.sure es c.credit.new.self.chunks board.missed in
+    subst P (sym items) (record {
+      lawful = c.close_span.ensures.lawful;
+      booked = omega (
+        arith,
+        count,
+        c.self.invariant.booked,
+        c.credit.ensures.chunks,
+        ap (λ (s : Span). s.count) found.2,
+      );
+      few = λ i. omega (
+        arith,
+        open_count-closed board.entries.items c.close_span.new.entries c.in-Some.place found.0 opens i,
+        c.self.invariant.few i,
+      );
+      not_sure = c.self.invariant.not_sure;
+    })
+
+pub close_span-requires-clause-top : goal.close_span-requires-clause-top
+close_span-requires-clause-top g c =
+    let l = g.L.Named in
+    let found = rw c.as_slice.ensures.value at c.in-Some.ensures.found in
+    let top : IsNodeOf l.input l.mode l.first (at c.self.inside.entries.items c.in-Some.place).span c.own.inside.node =
+    subst (λ (s : Span). IsNodeOf l.input l.mode l.first s c.own.inside.node) (sym found.2) c.own.invariant.node_is in
+    rw c.as_mut_slice.ensures.value top

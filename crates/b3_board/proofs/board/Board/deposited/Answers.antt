@@ -6,7 +6,7 @@ use Rattle.b3_board.proofs.board.Board.deposited.Goals as goal
 pub returns-clause-lawful : goal.returns-clause-lawful
 returns-clause-lawful g c =
     let board = c.self.inside in
+    let l = g.L.Named in
     let kept = c.self.invariant in
     subst IsLawful c.self.view_is
-    (lawful_picture board.tree.input.now board.tree.mode board.tree.first board.entries.items kept.lawful
-    board.account.chunks kept.booked)
+    (lawful_picture l.input l.mode l.first board.entries.items kept.lawful board.account.chunks kept.booked)

@@ -1,4 +1,4 @@
-use Rattle.std.proofs.Common.{◌≡◌, ℕ, List, ◌-◌, arith, subst}
+use Rattle.std.proofs.Common.{◌≡◌, ◌-◌, arith, subst}
 use Rattle.b3_core.specs.declared.tree.Span.{Span}
 use Rattle.b3_board.specs.Entries.{open_spans}
 use Rattle.b3_board.specs.Pictures.{Picture}
@@ -13,9 +13,9 @@ returns-clause-open g c =
     let here : c.size.result - board.account.chunks ≡ chunks_in (open_spans board.entries.items) =
     omega (
       arith,
-      c.size.ensures,
+      c.size.ensures.count,
       sum_open (λ (s : Span). s.count) board.entries.items,
       kept.lawful.sound.all,
       kept.booked,
     ) in
-    subst (λ (p : Picture (List ℕ)). c.size.result - board.account.chunks ≡ chunks_in p.open_spans) c.self.view_is here
+    subst (λ (p : Picture). c.size.result - board.account.chunks ≡ chunks_in p.open_spans) c.self.view_is here

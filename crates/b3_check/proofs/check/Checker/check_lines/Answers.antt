@@ -1,7 +1,7 @@
 use Rattle.std.proofs.Common.{ℕ, ◌==◌, List, ap, arith, inl, length, refl}
 use Rattle.std.proofs.lemmas.Result.{err_from_is_err_and}
 use Rattle.b3_lines.specs.Lines.{lines_of}
-use Rattle.b3_check.specs.declared.hashing.Output.{Output}
+use Rattle.b3_check.specs.declared.output_range.OutputRange.{OutputRange}
 use Rattle.b3_check.specs.Checks.{list_end_report, list_end_script}
 use Rattle.b3_check.specs.Tallies.{no_tally}
 use Rattle.b3_check.proofs.CheckLemmas.{ran_summed, stopped_summing, stopped_unsummed, tasks_script-lines}
@@ -25,7 +25,7 @@ run-requires g c = λ _.
             (
               (refl, (refl, tt)),
               (
-                ap (λ (output : Output). output.length == 32) c.args.self.now.output,
+                ap (λ (range : OutputRange). range.length == 32) c.args.self.now.range,
                 (
                   omega (arith, few, text, size, ok, c.args.self.now.largest),
                   record {
@@ -49,21 +49,21 @@ returns-in_err-tally-clause-run g c =
     let stopped = rw (
       c.new-agenda.ensures.lines,
       c.text.ensures,
-      checker.output,
+      checker.range,
       checker.same_limits,
       tasks_script-lines checker.options list 1 (lines_of checker.reader.text.items),
     ) at c.in_err-tally.ensures.run in
     rw (p.1, p.2) (stopped_early_counted no_tally (list_end_script checker.options list) stopped)
 
-pub returns-in_err-said-clause-run : goal.returns-in_err-said-clause-run
-returns-in_err-said-clause-run g c =
-    let p = err_from_is_err_and c.from_residual-in_err-said.result c.from_residual-in_err-said.ensures.1 in
+pub returns-in_err-message-clause-run : goal.returns-in_err-message-clause-run
+returns-in_err-message-clause-run g c =
+    let p = err_from_is_err_and c.from_residual-in_err-message.result c.from_residual-in_err-message.ensures.1 in
     let checker = c.args.self.now in
     let list = c.args.name.now in
     let ran = rw (
       c.new-agenda.ensures.lines,
       c.text.ensures,
-      checker.output,
+      checker.range,
       tasks_script-lines checker.options list 1 (lines_of checker.reader.text.items),
     ) at c.in_ok-tally.ensures.run in
     rw p.1 (stopped_unsummed (list_end_report checker.options list) ran p.2)
@@ -76,11 +76,11 @@ returns-in_err-say-clause-run g c =
     let ran = rw (
       c.new-agenda.ensures.lines,
       c.text.ensures,
-      checker.output,
+      checker.range,
       tasks_script-lines checker.options list 1 (lines_of checker.reader.text.items),
     ) at c.in_ok-tally.ensures.run in
     let said = c.in_err-say.ensures.said in
-    rw (p.1, p.2) (stopped_summing (list_end_report checker.options list) _ ran c.in_ok-said.ensures.said said.0
+    rw (p.1, p.2) (stopped_summing (list_end_report checker.options list) _ ran c.in_ok-message.ensures.report said.0
     (inl said.1))
 
 pub returns-clause-run : goal.returns-clause-run
@@ -90,8 +90,8 @@ returns-clause-run g c =
     let ran = rw (
       c.new-agenda.ensures.lines,
       c.text.ensures,
-      checker.output,
+      checker.range,
       tasks_script-lines checker.options list 1 (lines_of checker.reader.text.items),
     ) at c.in_ok-tally.ensures.run in
-    ran_summed (list_end_report checker.options list) _ ran c.in_ok-said.ensures.said c.in_ok-say.ensures.said
+    ran_summed (list_end_report checker.options list) _ ran c.in_ok-message.ensures.report c.in_ok-say.ensures.said
     c.add.ensures

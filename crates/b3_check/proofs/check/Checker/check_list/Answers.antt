@@ -13,9 +13,9 @@ returns-in_err-read_list-clause-run g c =
     let asked = rw c.limits-limits.ensures at c.in_err-read_list.ensures.asked in
     rw (p.1, p.2) (stopped_unanswered (lines_script c.args.self.now.options c.args.name.now) asked)
 
-pub returns-in_err-said-in-Err-clause-run : goal.returns-in_err-said-in-Err-clause-run
-returns-in_err-said-in-Err-clause-run g c =
-    let residual = c.from_residual-in_err-said-in-Err in
+pub returns-in_err-message-in-Err-clause-run : goal.returns-in_err-message-in-Err-clause-run
+returns-in_err-message-in-Err-clause-run g c =
+    let residual = c.from_residual-in_err-message-in-Err in
     let p = err_from_is_err_and residual.result residual.ensures.1 in
     let answered = rw c.in-Err.is at c.in_ok-read_list.ensures.asked in
     rw p.1 (stopped_answered (lines_script c.args.self.now.options c.args.name.now) _ answered
@@ -25,17 +25,17 @@ pub returns-in_err-say-in-Err-clause-run : goal.returns-in_err-say-in-Err-clause
 returns-in_err-say-in-Err-clause-run g c =
     let p = err_from_is_err_and c.from_residual-in_err-say-in-Err.result c.from_residual-in_err-say-in-Err.ensures.1 in
     let answered = rw c.in-Err.is at c.in_ok-read_list.ensures.asked in
-    let said = rw c.in_ok-said-in-Err.ensures at c.in_err-say-in-Err.ensures.said in
+    let said = rw c.in_ok-message-in-Err.ensures at c.in_err-say-in-Err.ensures.said in
     rw (p.1, p.2) (stopped_answered (lines_script c.args.self.now.options c.args.name.now) _ answered
     (stopped_said (unread_list_report c.args.self.now.options c.args.name.now) said.0 (inl said.1)))
 
 pub returns-in_ok-say-in-Err-clause-run : goal.returns-in_ok-say-in-Err-clause-run
 returns-in_ok-say-in-Err-clause-run g c =
     let answered = rw c.in-Err.is at c.in_ok-read_list.ensures.asked in
-    let said = rw c.in_ok-said-in-Err.ensures at c.in_ok-say-in-Err.ensures.said in
+    let said = rw c.in_ok-message-in-Err.ensures at c.in_ok-say-in-Err.ensures.said in
     ran_answered (lines_script c.args.self.now.options c.args.name.now) _ answered
     (ran_said (unread_list_report c.args.self.now.options c.args.name.now) said
-    (ap (λ (p : Report). p.tally) c.in_ok-said-in-Err.ensures))
+    (ap (λ (p : Report). p.tally) c.in_ok-message-in-Err.ensures))
 
 pub returns-in-Ok-clause-run : goal.returns-in-Ok-clause-run
 returns-in-Ok-clause-run g c =

@@ -7,11 +7,11 @@ use Rattle.b3_check.proofs.list_lines.ListLines.new.Goals as goal
 pub returns-clause-few : goal.returns-clause-few
 returns-clause-few c =
     let text = c.args.text.now in
-    let places = c.lines.result in
+    let lines = c.lines.result in
     omega (
       arith,
-      length-line_tasks c.args.options c.args.name.now c.args.first (map (line_at text) places),
-      length-map places
+      length-line_tasks c.args.options c.args.name.now c.args.first (map (line_at text) lines),
+      length-map lines
           (line_at text),
       c.lines.ensures.count,
     )

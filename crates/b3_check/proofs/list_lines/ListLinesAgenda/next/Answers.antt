@@ -16,6 +16,6 @@ invariant_of-self-2 c =
 pub returns-in-Ok-clause-next : goal.returns-in-Ok-clause-next
 returns-in-Ok-clause-next c =
     let agenda = c.args.self.now in
-    line_tasks-read agenda.options agenda.name.now agenda.number agenda.text.now _ agenda.places _ c.in-Ok.line.digest
+    line_tasks-read agenda.options agenda.name.now agenda.number agenda.text.now _ agenda.lines _ c.in-Ok.line.digest
     (string_bytes c.in-Ok.line.name) (string_bytes c.in-Ok.line.shown)
     c.in-Some.ensures.steps c.in-Ok.ensures.read

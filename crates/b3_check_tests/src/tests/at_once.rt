@@ -1,0 +1,145 @@
+// As many workers as are asked for work at the same time: on the spans of one content, and on contents beside one
+// another.
+
+use crate::tests::contents::{line_of, pattern};
+use crate::tests::ended::{Ended, check, check_behind, sum, sum_behind};
+use crate::tests::lettered_files::{Access, LetteredFiles};
+use crate::tests::meeting::{AllAtOnce, Meeting};
+use crate::tests::{ONE_BYTE, check_options, options, tally};
+use b3_check::{CheckOptions, SumOptions};
+use std::alloc::Global;
+use std::process::Abort;
+use std::sync::Wait;
+use std::test::Fail;
+use std::thread::Threads;
+
+fn sum_by(workers: u32) -> SumOptions {
+    SumOptions {
+        workers,
+        ..options(1_000, 0)
+    }
+}
+
+fn check_by(workers: u32) -> CheckOptions {
+    CheckOptions {
+        workers,
+        ..check_options(false, 100_000)
+    }
+}
+
+// All workers that are asked for and no more were behind the gate at the same time, and each span passed it once.
+fn assert_passed(
+    rt: &impl Abort,
+    gate: &AllAtOnce,
+    workers: u32,
+    spans: u64,
+    ended: &Ended,
+    text: &str,
+) {
+    ended.assert(rt, text, Ok(tally(1, 0, 0)), text.as_bytes(), b"");
+    assert!(rt; gate.workers.have_met(), "{workers} workers");
+    assert_eq!(rt; gate.workers.guests(), workers);
+    assert_eq!(rt; gate.calls(), spans, "{workers} workers");
+}
+
+// Behind a gate that holds each worker until all have come, by either engine.
+fn assert_behind<R: Abort + Threads + Wait + Sync>(
+    rt: &R,
+    alloc: Global,
+    name: &str,
+    workers: u32,
+    spans: u64,
+) -> Result<(), Fail> {
+    let kept = pattern(alloc, 262_144 + 250)?;
+    let line = format!(in alloc; "{}\n", line_of(name))?;
+    let verdict = format!(in alloc; "{name}: OK\n")?;
+    let mut shelf = LetteredFiles::new(alloc, &kept, b"", Access::AtPlaces);
+    let gate = AllAtOnce::new(workers);
+    let ended = sum_behind(rt, alloc, &mut shelf, name, &sum_by(workers), &gate)?;
+    assert_passed(rt, &gate, workers, spans, &ended, line.as_str());
+    let mut shelf = LetteredFiles::new(alloc, &kept, line.as_bytes(), Access::AtPlaces);
+    let gate = AllAtOnce::new(workers);
+    let ended = check_behind(rt, alloc, &mut shelf, &check_by(workers), &gate)?;
+    assert_passed(rt, &gate, workers, spans, &ended, verdict.as_str());
+    Ok(())
+}
+
+// Behind the open gate, by either engine: so many files of one line are asked of a shelf that holds each call of a
+// thread until as many as there are workers have come.
+fn assert_asked<R: Abort + Threads + Wait + Sync>(
+    rt: &R,
+    alloc: Global,
+    access: Access,
+    name: &str,
+    line: &str,
+    files: u64,
+    workers: u32,
+) -> Result<(), Fail> {
+    let kept = pattern(alloc, 262_144 + 250)?;
+    let mut names = Vec::new(alloc);
+    let mut lines = String::new(alloc);
+    let mut verdicts = String::new(alloc);
+    for _ in 0..files {
+        names.push(name)?;
+        lines.push_str(line)?;
+        lines.push_str("\n")?;
+        verdicts.push_str(name)?;
+        verdicts.push_str(": OK\n")?;
+    }
+    let mut shelf = LetteredFiles::new(alloc, &kept, b"", access);
+    shelf.readers = Meeting::new(workers);
+    let ended = sum(rt, alloc, &mut shelf, &names, &sum_by(workers))?;
+    ended.assert(rt, name, Ok(tally(files, 0, 0)), lines.as_bytes(), b"");
+    assert!(rt; shelf.readers.have_met(), "{workers} workers");
+    let mut shelf = LetteredFiles::new(alloc, &kept, lines.as_bytes(), access);
+    shelf.readers = Meeting::new(workers);
+    let ended = check(rt, alloc, &mut shelf, &["l"], &check_by(workers))?;
+    ended.assert(rt, name, Ok(tally(files, 0, 0)), verdicts.as_bytes(), b"");
+    assert!(rt; shelf.readers.have_met(), "{workers} workers");
+    Ok(())
+}
+
+// One content, behind both.
+fn assert_at_once<R: Abort + Threads + Wait + Sync>(
+    rt: &R,
+    alloc: Global,
+    name: &str,
+    workers: u32,
+    spans: u64,
+) -> Result<(), Fail> {
+    assert_behind(rt, alloc, name, workers, spans)?;
+    assert_asked(rt, alloc, Access::AtPlaces, name, line_of(name), 1, workers)
+}
+
+// Two workers over three spans.
+#[test]
+fn two_at_once(rt: HostRuntime) -> Result<(), Fail> {
+    assert_at_once(&rt, rt.alloc(), "g40000", 2, 3)
+}
+
+// Spans have 16 KiB, or 256 KiB where each worker gets four of these. A further worker than two starts for each
+// 256 KiB.
+#[test]
+fn all_workers_at_once(rt: HostRuntime) -> Result<(), Fail> {
+    for (name, workers, spans) in [
+        ("g524288", 2, 32),
+        ("g786432", 3, 48),
+        ("g1048576", 4, 64),
+        ("g6291457", 4, 25),
+        ("g16777216", 64, 1_024),
+    ] {
+        assert_at_once(&rt, rt.alloc(), name, workers, spans)?;
+    }
+    Ok(())
+}
+
+#[test]
+fn all_workers_beside_one_another(rt: HostRuntime) -> Result<(), Fail> {
+    let line = format!(in rt.alloc(); "{ONE_BYTE}  g1")?;
+    for workers in [2, 3, 4, 64u32] {
+        let files = workers as u64;
+        let line = line.as_str();
+        assert_asked(&rt, rt.alloc(), Access::Beside, "g1", line, files, workers)?;
+    }
+    Ok(())
+}

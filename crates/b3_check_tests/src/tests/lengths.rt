@@ -1,0 +1,211 @@
+// Contents of each length around what they are cut into, in each way in which they are given.
+
+use crate::tests::contents::{LINES, REGION_AND_A_BYTE, line_of, name_in, pattern};
+use crate::tests::ended::{check, sum, sum_files};
+use crate::tests::lettered_files::{Access, LetteredFiles, number_in};
+use crate::tests::recording::{RecordedFiles, file_of};
+use crate::tests::{EMPTY, check_options, lines_tally, options, tally};
+use b3_check::{RunFault, SumOptions};
+use std::alloc::Global;
+use std::process::Abort;
+use std::sync::Wait;
+use std::test::Fail;
+use std::thread::Threads;
+
+// The bytes of a piece from any place below 251 on.
+const KEPT: usize = 262_144 + 250;
+
+const MEBIBYTE: u64 = 1 << 20;
+
+// What is said of a file that fails once and is read after that.
+const COMPLAINT: &[u8] = b"b3sum: g196608: cannot read\n";
+
+fn by_workers(workers: u32, turns: u64) -> SumOptions {
+    SumOptions {
+        workers,
+        ..options(turns, 0)
+    }
+}
+
+// Sums the content of a line, then one of a byte and an empty one: the memory of one content serves the next.
+fn assert_line<R: Abort + Threads + Wait + Sync>(
+    rt: &R,
+    alloc: Global,
+    kept: &[u8],
+    access: Access,
+    most: usize,
+    workers: u32,
+    line: &'static str,
+) -> Result<(), Fail> {
+    let lines = format!(in alloc; "{line}\n{}\n{}\n", LINES[1], LINES[0])?;
+    let mut shelf = LetteredFiles::new(alloc, kept, b"", access);
+    shelf.most = most;
+    let asked = by_workers(workers, 10_000_000);
+    let names = [name_in(line)?, "g1", "g0"];
+    let ended = sum(rt, alloc, &mut shelf, &names, &asked)?;
+    ended.assert(rt, line, Ok(tally(3, 0, 0)), lines.as_bytes(), b"");
+    Ok(())
+}
+
+#[test]
+fn each_length_at_places(rt: HostRuntime) -> Result<(), Fail> {
+    let kept = pattern(rt.alloc(), KEPT)?;
+    for line in LINES {
+        let is_short = number_in(name_in(line)?) < 2 * MEBIBYTE;
+        let workers: &[u32] = if is_short { &[1, 2, 3, 4, 64] } else { &[1, 4] };
+        for workers in workers {
+            let access = Access::AtPlaces;
+            assert_line(&rt, rt.alloc(), &kept, access, usize::MAX, *workers, line)?;
+        }
+    }
+    Ok(())
+}
+
+#[test]
+fn a_region_and_a_byte(rt: HostRuntime) -> Result<(), Fail> {
+    let kept = pattern(rt.alloc(), KEPT)?;
+    let line = REGION_AND_A_BYTE;
+    assert_line(
+        &rt,
+        rt.alloc(),
+        &kept,
+        Access::AtPlaces,
+        usize::MAX,
+        4,
+        line,
+    )
+}
+
+// Some reads end before what the buffer takes, and some would go beyond it.
+#[test]
+fn each_length_in_order(rt: HostRuntime) -> Result<(), Fail> {
+    let kept = pattern(rt.alloc(), KEPT)?;
+    for line in LINES {
+        for most in [40_000, 65_535, usize::MAX] {
+            assert_line(&rt, rt.alloc(), &kept, Access::InOrder, most, 4, line)?;
+        }
+        if number_in(name_in(line)?) < MEBIBYTE {
+            assert_line(&rt, rt.alloc(), &kept, Access::InOrder, 1, 4, line)?;
+        }
+    }
+    Ok(())
+}
+
+#[test]
+fn each_length_in_memory(rt: HostRuntime) -> Result<(), Fail> {
+    let kept = pattern(rt.alloc(), 2 * MEBIBYTE as usize)?;
+    for line in LINES {
+        let name = name_in(line)?;
+        let Some(content) = kept.get(..number_in(name) as usize) else {
+            continue;
+        };
+        for workers in [1, 2, 3, 4, 64] {
+            let asked = by_workers(workers, 1_000);
+            let ended = sum_files(&rt, rt.alloc(), &[(name, content)], &[name], &asked)?;
+            let text = format!(in rt.alloc(); "{line}\n")?;
+            ended.assert(&rt, line, Ok(tally(1, 0, 0)), text.as_bytes(), b"");
+        }
+    }
+    Ok(())
+}
+
+// One of the calls fails: the name has no line, and nothing of it is left for the next one. Call 0 begins the name, and
+// the last of the four reads finds the end.
+#[test]
+fn a_failure_leaves_nothing_behind(rt: HostRuntime) -> Result<(), Fail> {
+    let alloc = rt.alloc();
+    let line = line_of("g196608");
+    let text = format!(in alloc; "{line}\n")?;
+    let files = [file_of(alloc, "g196608", pattern(alloc, 196_608)?.as_slice())?];
+    for calls_before in 0..5 {
+        let mut shelf = RecordedFiles::new(alloc, &files, 65_536, calls_before);
+        let names = ["g196608", "g196608"];
+        let ended = sum(&rt, alloc, &mut shelf, &names, &options(4, 0))?;
+        ended.assert(&rt, line, Ok(tally(1, 1, 0)), text.as_bytes(), COMPLAINT);
+    }
+    Ok(())
+}
+
+// A file that is read at places may take no more reads than one that is read in order.
+#[test]
+fn three_buffers_and_their_last_read(rt: HostRuntime) -> Result<(), Fail> {
+    let alloc = rt.alloc();
+    let kept = pattern(alloc, KEPT)?;
+    let line = line_of("g196608");
+    let text = format!(in alloc; "{line}\n")?;
+    for access in [Access::InOrder, Access::AtPlaces, Access::Beside] {
+        for turns in 1..5 {
+            let mut shelf = LetteredFiles::new(alloc, &kept, b"", access);
+            let ended = sum(&rt, alloc, &mut shelf, &["g196608"], &options(turns, 0))?;
+            if turns < 4 {
+                ended.assert(&rt, "too few", Err(RunFault::EndlessInput), b"", b"");
+            } else {
+                ended.assert(&rt, line, Ok(tally(1, 0, 0)), text.as_bytes(), b"");
+            }
+        }
+    }
+    Ok(())
+}
+
+#[test]
+fn a_list_of_long_files(rt: HostRuntime) -> Result<(), Fail> {
+    let alloc = rt.alloc();
+    let kept = pattern(alloc, KEPT)?;
+    let line = line_of("g6291456");
+    let list = format!(in alloc; "{line}\n{EMPTY}  g6291456\n{line}\n")?;
+    for access in [Access::InOrder, Access::AtPlaces] {
+        let mut shelf = LetteredFiles::new(alloc, &kept, list.as_bytes(), access);
+        let asked = check_options(false, 1_000);
+        let ended = check(&rt, alloc, &mut shelf, &["l"], &asked)?;
+        let warning = b"b3sum: WARNING: 1 computed checksum did NOT match\n";
+        let verdicts = b"g6291456: OK\ng6291456: FAILED\ng6291456: OK\n";
+        ended.assert(&rt, line, Ok(lines_tally(2, 1, 0, 0)), verdicts, warning);
+    }
+    Ok(())
+}
+
+// A file that is not read at places to its end is read in order, from its beginning.
+fn assert_refused<R: Abort + Threads + Wait + Sync>(
+    rt: &R,
+    alloc: Global,
+    kept: &[u8],
+    hint: Option<u64>,
+    calls_before: u64,
+    given: Option<usize>,
+) -> Result<(), Fail> {
+    let line = line_of("g1048577");
+    let text = format!(in alloc; "{line}\n")?;
+    for workers in [1, 4] {
+        let mut shelf = LetteredFiles::new(alloc, kept, b"", Access::AtPlaces);
+        shelf.hint = hint;
+        shelf.calls_before = calls_before;
+        shelf.given = given;
+        let asked = by_workers(workers, 1_000);
+        let ended = sum(rt, alloc, &mut shelf, &["g1048577"], &asked)?;
+        ended.assert(rt, line, Ok(tally(1, 0, 0)), text.as_bytes(), b"");
+    }
+    Ok(())
+}
+
+// The first call sees where the file ends, and each other asks for a span: whichever gives nothing or too little.
+#[test]
+fn a_span_that_is_not_given_or_is_short(rt: HostRuntime) -> Result<(), Fail> {
+    let kept = pattern(rt.alloc(), KEPT)?;
+    for calls_before in [0, 1, 2, 3, 32, 64, 65] {
+        for given in [None, Some(0), Some(1_024), Some(16_383)] {
+            assert_refused(&rt, rt.alloc(), &kept, None, calls_before, given)?;
+        }
+    }
+    Ok(())
+}
+
+// What a file says of its length is not believed.
+#[test]
+fn a_length_that_is_not_so(rt: HostRuntime) -> Result<(), Fail> {
+    let kept = pattern(rt.alloc(), KEPT)?;
+    let len = MEBIBYTE + 1;
+    for hint in [0, len / 2, len - 1, len + 1, 5 * len, u64::MAX] {
+        assert_refused(&rt, rt.alloc(), &kept, Some(hint), u64::MAX, None)?;
+    }
+    Ok(())
+}

@@ -1,0 +1,299 @@
+// Many names in no order: what is written of them is the same by any number of workers, one after the other and beside
+// one another, and each name that is not hashed beside others is begun once, in its turn.
+
+use crate::tests::contents::pattern;
+use crate::tests::ended::{check, strings, sum, sum_into};
+use crate::tests::lettered_files::{Access, LetteredFiles, number_in};
+use crate::tests::recording::PieceSink;
+use crate::tests::{check_options, lines_tally, options, tally};
+use b3_check::{CheckOptions, MemorySink, RunFault, SumOptions, Tally};
+use b3_hash::hash;
+use b3_lines::write_line;
+use std::alloc::Global;
+use std::process::Abort;
+use std::sync::Wait;
+use std::test::Fail;
+use std::thread::Threads;
+
+// As many bytes as the longest file here has, and 250 more.
+const KEPT: usize = 40_000 + 250;
+
+// Files of 0 to 40,000 bytes, each 404 bytes longer than the one before.
+fn hundred_names(alloc: Global) -> Result<Vec<String>, Fail> {
+    let mut names = Vec::new(alloc);
+    for n in 0..100u64 {
+        names.push(format!(in alloc; "g{}", (n * 404).min(40_000))?)?;
+    }
+    Ok(names)
+}
+
+// Files of 1 to 3,000 bytes, as chance has it: two in sixteen are not there, and two fail.
+fn thousand_names(alloc: Global) -> Result<Vec<String>, Fail> {
+    let mut names = Vec::new(alloc);
+    let mut state = 1u64;
+    for _ in 0..1_000usize {
+        state = state
+            .wrapping_mul(6_364_136_223_846_793_005)
+            .wrapping_add(1_442_695_040_888_963_407);
+        let letter = match state >> 60 {
+            0 | 1 => "m",
+            2 | 3 => "f",
+            _ => "g",
+        };
+        names.push(format!(in alloc; "{letter}{}", 1 + (state >> 32) % 3_000)?)?;
+    }
+    Ok(names)
+}
+
+/// What is said of names, one after the other, and of a list of their lines, each before one that is malformed.
+#[derive(Drop)]
+struct Texts {
+    lines: Vec<u8>,
+    complaints: String,
+    list: Vec<u8>,
+    verdicts: String,
+    warnings: String,
+    // the names that are begun where those that are there are not
+    begun: String,
+    ok: u64,
+    failed: u64,
+}
+
+impl Texts {
+    fn of_none(alloc: Global) -> Texts {
+        Texts {
+            lines: Vec::new(alloc),
+            complaints: String::new(alloc),
+            list: Vec::new(alloc),
+            verdicts: String::new(alloc),
+            warnings: String::new(alloc),
+            begun: String::new(alloc),
+            ok: 0,
+            failed: 0,
+        }
+    }
+
+    // The next name is said.
+    fn add(&mut self, alloc: Global, kept: &[u8], name: &str) -> Result<(), Fail> {
+        let content = kept.get(..number_in(name) as usize).unwrap_or(b"");
+        let line = write_line(alloc, &hash(content), name)?;
+        self.list.extend_from_slice(line.as_slice())?;
+        self.list.extend_from_slice(b"no line\n")?;
+        if name.starts_with("g") {
+            self.lines.extend_from_slice(line.as_slice())?;
+            self.verdicts.push_str(name)?;
+            self.verdicts.push_str(": OK\n")?;
+            self.ok = self.ok.saturating_add(1);
+        } else {
+            let complaint = format!(in alloc; "b3sum: {name}: cannot read\n")?;
+            self.complaints.push_str(complaint.as_str())?;
+            self.verdicts.push_str(name)?;
+            self.verdicts.push_str(": FAILED (cannot read)\n")?;
+            self.begun.push_str(name)?;
+            self.begun.push_str("\n")?;
+            self.failed = self.failed.saturating_add(1);
+        }
+        let number = self.ok.saturating_add(self.failed).saturating_mul(2);
+        let warning = format!(in alloc; "b3sum: line {number}: short line\n")?;
+        self.warnings.push_str(warning.as_str())?;
+        Ok(())
+    }
+}
+
+fn texts_of(alloc: Global, kept: &[u8], names: &[String]) -> Result<Texts, Fail> {
+    let mut texts = Texts::of_none(alloc);
+    for name in names {
+        texts.add(alloc, kept, name.as_str())?;
+    }
+    let failed = texts.failed.saturating_add(names.len() as u64);
+    let warning = format!(in alloc; "b3sum: WARNING: {failed} computed checksums did NOT match\n")?;
+    texts.warnings.push_str(warning.as_str())?;
+    Ok(texts)
+}
+
+// Each name with a line feed.
+fn with_feeds(alloc: Global, names: &[String]) -> Result<String, Fail> {
+    let mut text = String::new(alloc);
+    for name in names {
+        text.push_str(name.as_str())?;
+        text.push_str("\n")?;
+    }
+    Ok(text)
+}
+
+// Sums the names and checks their lines. One worker hashes nothing beside others.
+fn assert_names<R: Abort + Threads + Wait + Sync>(
+    rt: &R,
+    alloc: Global,
+    names: &[String],
+    workers: u32,
+    access: Access,
+) -> Result<(), Fail> {
+    let kept = pattern(alloc, KEPT)?;
+    let texts = texts_of(alloc, &kept, names)?;
+    let mut shelf = LetteredFiles::new(alloc, &kept, texts.list.as_slice(), access);
+    shelf.most = 20_000;
+    let mut out = MemorySink::new(alloc);
+    let mut err = MemorySink::new(alloc);
+    let asked = SumOptions {
+        workers,
+        ..options(4, 0)
+    };
+    let answer = sum_into(rt, alloc, &mut shelf, names, &mut out, &mut err, &asked);
+    assert_eq!(rt;
+        answer,
+        Ok(tally(texts.ok, texts.failed, 0)),
+        "{workers} workers"
+    );
+    assert_eq!(rt; out.bytes(), texts.lines.as_slice(), "{workers} workers");
+    assert_eq!(rt;
+        err.bytes(),
+        texts.complaints.as_bytes(),
+        "{workers} workers"
+    );
+    assert_eq!(rt; shelf.failures(), texts.failed);
+    if workers > 1 && access == Access::Beside {
+        assert_eq!(rt; shelf.begun(), texts.begun.as_bytes());
+    } else {
+        assert_eq!(rt; shelf.begun(), with_feeds(alloc, names)?.as_bytes());
+    }
+
+    let mut shelf = LetteredFiles::new(alloc, &kept, texts.list.as_slice(), access);
+    shelf.most = 20_000;
+    let asked = CheckOptions {
+        workers,
+        ..check_options(false, 200_000)
+    };
+    let ended = check(rt, alloc, &mut shelf, &["l"], &asked)?;
+    let counts = lines_tally(texts.ok, 0, texts.failed, names.len() as u64);
+    let verdicts = texts.verdicts.as_bytes();
+    ended.assert(
+        rt,
+        "a list",
+        Ok(counts),
+        verdicts,
+        texts.warnings.as_bytes(),
+    );
+    assert_eq!(rt; shelf.failures(), texts.failed);
+    Ok(())
+}
+
+#[test]
+fn a_hundred_files_by_each_number_of_workers(rt: HostRuntime) -> Result<(), Fail> {
+    let names = hundred_names(rt.alloc())?;
+    for workers in [1, 2, 4, 64] {
+        for access in [Access::InOrder, Access::AtPlaces, Access::Beside] {
+            assert_names(&rt, rt.alloc(), &names, workers, access)?;
+        }
+    }
+    Ok(())
+}
+
+#[test]
+fn a_thousand_names_of_which_some_cannot_be_read(rt: HostRuntime) -> Result<(), Fail> {
+    let names = thousand_names(rt.alloc())?;
+    for workers in [1, 4] {
+        for access in [Access::AtPlaces, Access::Beside] {
+            assert_names(&rt, rt.alloc(), &names, workers, access)?;
+        }
+    }
+    Ok(())
+}
+
+// What a run over a few names answered, wrote and began.
+#[derive(Drop)]
+struct Came {
+    answer: Result<Tally, RunFault>,
+    out: Vec<u8>,
+    begun: Vec<u8>,
+    failures: u64,
+}
+
+// Sums names that are hashed one after the other, by reads of a thousand bytes. The output takes so many bytes.
+fn sum_few<R: Abort + Threads + Wait + Sync>(
+    rt: &R,
+    alloc: Global,
+    names: &[&str],
+    most: usize,
+) -> Result<Came, Fail> {
+    let kept = pattern(alloc, KEPT)?;
+    let asked = strings(alloc, names)?;
+    let mut shelf = LetteredFiles::new(alloc, &kept, b"", Access::AtPlaces);
+    shelf.most = 1_000;
+    let mut out = PieceSink::new(alloc, 1, most as u64);
+    let mut err = MemorySink::new(alloc);
+    let limits = options(4, 0);
+    let answer = sum_into(rt, alloc, &mut shelf, &asked, &mut out, &mut err, &limits);
+    Ok(Came {
+        answer,
+        begun: Vec::from_slice(alloc, shelf.begun())?,
+        out: out.bytes,
+        failures: shelf.failures(),
+    })
+}
+
+// The line of a file of three thousand bytes.
+fn first_line(alloc: Global) -> Result<Vec<u8>, Fail> {
+    let content = pattern(alloc, 3_000)?;
+    Ok(write_line(alloc, &hash(content.as_slice()), "g3000")?)
+}
+
+#[test]
+fn a_name_asked_twice_in_a_row_is_begun_twice(rt: HostRuntime) -> Result<(), Fail> {
+    let mut lines = first_line(rt.alloc())?;
+    lines.extend_from_slice(first_line(rt.alloc())?.as_slice())?;
+    let came = sum_few(&rt, rt.alloc(), &["g3000", "g3000"], 1_000)?;
+    assert_eq!(&rt; came.answer, Ok(tally(2, 0, 0)));
+    assert_eq!(&rt; came.begun.as_slice(), b"g3000\ng3000\n".as_slice());
+    assert_eq!(&rt; came.out.as_slice(), lines.as_slice());
+    Ok(())
+}
+
+// The write of the first line fails: no name after it is begun.
+#[test]
+fn a_write_that_fails_ends_the_run(rt: HostRuntime) -> Result<(), Fail> {
+    let line = first_line(rt.alloc())?;
+    for taken in 0..line.len() {
+        let came = sum_few(&rt, rt.alloc(), &["g3000", "m1", "g1"], taken)?;
+        assert_eq!(&rt; came.answer, Err(RunFault::WriteFault));
+        assert_eq!(&rt; came.begun.as_slice(), b"g3000\n".as_slice());
+        assert_eq!(&rt; came.out.as_slice(), &line.as_slice()[..taken]);
+        assert_eq!(&rt; came.failures, 0);
+    }
+    Ok(())
+}
+
+// Four reads, of which the last one finds the end, are too few for the second file. Its fault comes after
+// the first line.
+#[test]
+fn a_fault_comes_after_the_line(rt: HostRuntime) -> Result<(), Fail> {
+    let line = first_line(rt.alloc())?;
+    let names = ["g3000", "g3001", "m1"];
+    let came = sum_few(&rt, rt.alloc(), &names, 1_000)?;
+    assert_eq!(&rt; came.answer, Err(RunFault::EndlessInput));
+    assert_eq!(&rt; came.begun.as_slice(), b"g3000\ng3001\n".as_slice());
+    assert_eq!(&rt; came.out.as_slice(), line.as_slice());
+    assert_eq!(&rt; came.failures, 0);
+    Ok(())
+}
+
+// A content that is hashed beside others has at most 32 MiB by four workers, 2 MiB where there are less than two names
+// for each of them, and no more than is read in order by as many reads as are allowed.
+#[test]
+fn a_content_beside_others_is_not_too_long(rt: HostRuntime) -> Result<(), Fail> {
+    let names = ["g0"; 8];
+    for (count, turns, longest) in [
+        (8usize, 1_000u64, 33_554_432u64),
+        (7, 1_000, 2_097_152),
+        (2, 1_000, 2_097_152),
+        (8, 3, 196_607),
+        (7, 1, 65_535),
+    ] {
+        let mut shelf = LetteredFiles::new(rt.alloc(), b"", b"", Access::Beside);
+        let names = &names[..count.min(8)];
+        let ended = sum(&rt, rt.alloc(), &mut shelf, names, &options(turns, 0))?;
+        assert_eq!(&rt; ended.answer, Ok(tally(count as u64, 0, 0)));
+        assert_eq!(&rt; shelf.longest(), longest, "{count} names, {turns} reads");
+    }
+    Ok(())
+}
