@@ -1,4 +1,6 @@
+pub mod Disks
 pub mod Files
+pub mod MemoryDisks
 pub mod Usages
 pub mod Tasks
 pub mod Said

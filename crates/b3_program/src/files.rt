@@ -1,58 +1,49 @@
-ghost use Rattle.std.specs.Prelude.{◌≡◌, ◌≢◌, ◌↔◌, ◌+◌, ◌-◌, ◌^◌, ◌<◌, ◌≤◌, ◌&&◌, [], true, false, None, Err, IsTrue, IsOk, OnOk, OnErr, IfOk, codes, length, take, is_err, is_ok, if◌then◌else◌};
-ghost use Rattle.std.specs.Io.KnownBytes.{Consumes, IsAtEnd};
+ghost use Rattle.std.specs.Prelude.{◌≡◌, ◌≢◌, ◌↔◌, ◌+◌, ◌-◌, ◌^◌, ◌<◌, ◌≤◌, ◌&&◌, [], true, false, Some, None, Err, IsTrue, IsSome, IsOk, OnOk, OnErr, IfOk, IfErr, IfSome, codes, length, take, drop, is_err, is_ok, is_some, if◌then◌else◌};
 ghost use Rattle.std.specs.IoError.{error_kind};
-ghost use Rattle.b3_check.specs.Contents.{IsSeen};
+ghost use Rattle.b3_check.specs.Contents.{Gives, HasContent, StandsForContent, LacksContent};
 ghost use Rattle.b3_check.specs.declared.shelf.NoContent.TheVariants.{Missing};
 ghost use Rattle.b3_hash.specs.Hashers.{StandsFor, mode_of};
-ghost use Rattle.b3_program.specs.Files.{IsOfMissing, is_input, is_open};
+ghost use Rattle.b3_program.specs.Disks.{IsOfMissing};
+ghost use Rattle.b3_program.specs.Files.{file_side, contents_with, input_side, is_input, is_open, rest_of, source_left, source_position, source_tells, told_if};
 
-use crate::input::{InputFile, InputPaths, open_input};
-use crate::retrying::{fill_at, read_retrying};
+use crate::disk::{Disk, DiskFile, Input};
+use crate::retrying::fill_at;
+use crate::source::Source;
 use b3_check::{CannotRead, NoContent, Shelf};
 use b3_hash::Hasher;
-use std::fs::{File, OpenFile};
-use std::io::{self, ErrorKind, Read};
-use std::os::unix::fs::FileExt;
-use std::rt::Files;
+use std::io::{self, ErrorKind};
 
 /// The name that stands for standard input.
 const INPUT_NAME: &str = "-";
 
-/// Where the next bytes come from.
+/// The files of a disk, with an input under the name `-`, which can be begun once.
 #[derive(Drop)]
-pub enum Source<T> {
-    Nothing,
-    Input,
-    // the input, which is a plain file
-    Placed(InputFile<T>),
-    Opened(T),
-}
-
-/// The files of a system, with an input under the name `-`, which can be begun once.
-#[derive(Drop)]
-pub struct FileShelf<'a, F: Files, I> {
-    files: &'a F,
+pub struct FileShelf<D: Disk, I: Input> {
+    disk: D,
+    // as it was before any of it was read
     input: I,
-    input_paths: Option<InputPaths<'a>>,
     is_input_taken: bool,
-    source: Source<F::File>,
+    source: Source<D::File, I, I::File>,
     // how many bytes were read of it
     given: u64,
     failures: u64,
+    ghost at_given: { IsTrue D.File.tells → source_position D.File.position source given ≡ given },
+    ghost in_step: { IsTrue I.tells → IsTrue I.File.tells
+        → input_side I.content I.position I.File.content source given ≡ file_side I.File.content source given },
 }
 
-impl<'a, F: Files, I: Read> FileShelf<'a, F, I> {
+impl<D: Disk, I: Input> FileShelf<D, I> {
     /// A shelf with an input of which nothing was read.
-    pub fn new(files: &'a F, input: I) -> FileShelf<'a, F, I>
+    pub fn new(disk: D, input: I) -> FileShelf<D, I>
+        ensures disk { result.disk ≡ disk }
         ensures input { result.input ≡ input }
         ensures free { result.is_input_taken ≡ false }
         ensures not_begun { is_open result.source ≡ false }
         ensures failures { result.failures ≡ 0 }
     {
         FileShelf {
-            files,
+            disk,
             input,
-            input_paths: None,
             is_input_taken: false,
             source: Source::Nothing,
             given: 0,
@@ -60,31 +51,31 @@ impl<'a, F: Files, I: Read> FileShelf<'a, F, I> {
         }
     }
 
-    /// The same shelf, whose input is what the system shows at these paths: a plain file is read at places too.
-    pub fn shown_at(self, paths: InputPaths<'a>) -> FileShelf<'a, F, I>
-        ensures shown { result.input_paths ≡ Some paths.entry }
-        ensures input { result.input ≡ self.entry.input }
-        ensures free { result.is_input_taken ≡ self.entry.is_input_taken }
-        ensures source { result.source ≡ self.entry.source }
-        ensures failures { result.failures ≡ self.entry.failures }
+    // The next bytes of what is begun. Nothing where it cannot be read on, and then nothing is begun.
+    fn read_next(&mut self, buffer: &mut [u8]) -> Option<usize>
+        requires buffer { 0 < length buffer.old }
+        ensures open { is_open self.new.source ≡ (is_open self.old.source && is_some result) }
+        ensures within { IfSome result (λ n. n ≤ length buffer.old) }
+        ensures bytes { IsTrue (source_tells D.File.tells I.tells I.File.tells self.old.source) → IfSome result (λ n.
+            Gives (source_left D.File.content I.content I.position I.File.content self.old.source self.old.given)
+            (take n buffer.new)
+            (source_left D.File.content I.content I.position I.File.content self.new.source self.new.given)) }
+        ensures not_open { is_open self.old.source ≡ false → result ≡ Some 0 }
+        ensures failures { self.new.failures ≡ self.old.failures }
+        ensures disk { self.new.disk ≡ self.old.disk }
+        ensures input { self.new.input ≡ self.old.input }
+        ensures input_taken { self.new.is_input_taken ≡ self.old.is_input_taken }
     {
-        FileShelf {
-            input_paths: Some(paths),
-            ..self
-        }
-    }
-
-    // The input, as a plain file where it is shown to be one.
-    fn input_source(&self) -> Source<F::File>
-        ensures { is_open result ≡ true }
-    {
-        let Some(paths) = &self.input_paths else {
-            return Source::Input;
+        let Some(count) = self.source.read(self.given, buffer) else {
+            self.source = Source::Nothing;
+            return None;
         };
-        match open_input(self.files, paths) {
-            Some(file) => Source::Placed(file),
-            None => Source::Input,
-        }
+        let Some(given) = self.given.checked_add(count as u64) else {
+            self.source = Source::Nothing;
+            return None;
+        };
+        self.given = given;
+        Some(count)
     }
 
     // A call fails: no file is begun.
@@ -92,6 +83,7 @@ impl<'a, F: Files, I: Read> FileShelf<'a, F, I> {
         requires { self.old.failures < 2 ^ 64 - 1 }
         ensures count { self.new.failures ≡ self.old.failures + 1 }
         ensures closed { is_open self.new.source ≡ false }
+        ensures disk { self.new.disk ≡ self.old.disk }
         ensures input { self.new.input ≡ self.old.input }
         ensures input_taken { self.new.is_input_taken ≡ self.old.is_input_taken }
     {
@@ -112,62 +104,70 @@ fn why_not(error: &io::Error) -> NoContent
 }
 
 // Has a file of at most so many bytes hashed, piece by piece, and answers whether it has.
-fn hash_file<F: FileExt>(file: &F, longest: u64, room: &mut [u8], hasher: &mut Hasher) -> bool
-    requires room { 0 < length room.old }
+fn hash_file<F: DiskFile>(file: &F, longest: u64, buffer: &mut [u8], hasher: &mut Hasher) -> bool
+    requires buffer { 0 < length buffer.old }
     requires fresh { StandsFor hasher.old [] }
-    ensures len { length room.new ≡ length room.old }
+    ensures len { length buffer.new ≡ length buffer.old }
     ensures mode { mode_of hasher.new ≡ mode_of hasher.old }
-    ensures content { IsTrue result → IsSeen None [] hasher.new }
+    ensures stands { IsTrue result → StandsForContent None [] hasher.new }
+    ensures content { IsTrue F.tells → IsTrue result → StandsFor hasher.new (F.content file.now) }
 {
-    let mut place = 0u64;
-    for _ in 0..=longest / room.len() as u64 {
-        let Some(count) = fill_at(file, place, room) else {
+    let mut offset = 0u64;
+    for _ in 0..=longest / buffer.len() as u64 {
+        let Some(count) = fill_at(file, offset, buffer) else {
             return false;
         };
-        let Ok(()) = hasher.update(&room[..count]) else {
+        let Ok(()) = hasher.update(&buffer[..count]) else {
             return false;
         };
-        if count < room.len() {
+        if count < buffer.len() {
             return true;
         }
-        place = place.saturating_add(count as u64);
+        let Some(next) = offset.checked_add(count as u64) else {
+            return false;
+        };
+        offset = next;
     }
     false
 }
 
-impl<F: Files, I: Read + Copy> Shelf for FileShelf<'_, F, I>
-where
-    F::File: FileExt,
-{
-    ghost use Rattle.b3_program.specs.declared.files.Source.TheVariants.{Input};
-
+impl<D: Disk, I: Input> Shelf for FileShelf<D, I> {
     ghost failures = { λ shelf. shelf.failures };
 
-    ghost told = { λ _. None };
+    ghost told = { λ shelf. told_if (D.File.tells && I.tells && I.File.tells)
+        (contents_with (D.contents shelf.disk) (rest_of I.content I.position shelf.input)) };
 
     ghost is_sure = { λ _. false };
 
     ghost is_begun = { λ shelf. is_open shelf.source };
 
-    ghost left = { λ _. [] };
+    ghost left = { λ shelf.
+        source_left D.File.content I.content I.position I.File.content shelf.source shelf.given };
 
     fn begin(&mut self, name: &str) -> Result<(), NoContent>
         requires { self.old.failures < 2 ^ 64 - 1 }
         ensures count { self.new.failures ≡ self.old.failures + (if is_err result then 1 else 0) }
         ensures begun { is_open self.new.source ≡ is_ok result }
+        ensures content { IsTrue D.File.tells → IsTrue I.tells → IsTrue I.File.tells
+            → OnOk result (contents_with (D.contents self.old.disk) (rest_of I.content I.position self.old.input)
+            name.now
+            ≡ Some (source_left D.File.content I.content I.position I.File.content self.new.source self.new.given)) }
+        ensures missing { IsTrue D.File.tells → result ≡ Err Missing
+            → contents_with (D.contents self.old.disk) (rest_of I.content I.position self.old.input) name.now ≡ None }
 
         // The input can be begun once, and is never missing; no other name takes it.
         ensures input { name.now ≡ codes "-" → (IsOk result ↔ (self.old.is_input_taken ≡ false)) }
         ensures input_there { name.now ≡ codes "-" → result ≢ Err Missing }
         ensures input_taken { name.now ≡ codes "-" → self.new.is_input_taken ≡ true }
         ensures other { name.now ≢ codes "-" → self.new.is_input_taken ≡ self.old.is_input_taken }
+        ensures disk { self.new.disk ≡ self.old.disk }
         ensures unread { self.new.input ≡ self.old.input }
     {
         // The file before is closed first: its number may be the one that the input had.
         self.source = Source::Nothing;
         self.given = 0;
         if name != INPUT_NAME {
-            match File::open(self.files, name) {
+            match self.disk.open(name) {
                 Ok(file) => self.source = Source::Opened(file),
                 Err(error) => {
                     self.fail();
@@ -181,80 +181,53 @@ where
             return Err(NoContent::CannotRead);
         }
         self.is_input_taken = true;
-        self.source = self.input_source();
+        self.source = Source::of_input(self.input);
         Ok(())
     }
 
-    fn read(&mut self, room: &mut [u8]) -> Result<usize, CannotRead>
+    fn read(&mut self, buffer: &mut [u8]) -> Result<usize, CannotRead>
         requires count { self.old.failures < 2 ^ 64 - 1 }
-        requires room { 0 < length room.old }
+        requires buffer { 0 < length buffer.old }
         ensures count { self.new.failures ≡ self.old.failures + (if is_err result then 1 else 0) }
         ensures begun { is_open self.new.source ≡ (is_open self.old.source && is_ok result) }
-        ensures within { IfOk result (λ n. n ≤ length room.old) }
+        ensures within { IfOk result (λ n. n ≤ length buffer.old) }
+        ensures bytes { IsTrue (source_tells D.File.tells I.tells I.File.tells self.old.source) → IfOk result (λ n.
+            Gives (source_left D.File.content I.content I.position I.File.content self.old.source self.old.given)
+            (take n buffer.new)
+            (source_left D.File.content I.content I.position I.File.content self.new.source self.new.given)) }
         ensures not_begun { is_open self.old.source ≡ false → IfOk result (λ n. n ≡ 0) }
         ensures input_taken { self.new.is_input_taken ≡ self.old.is_input_taken }
-
-        // Where the input is begun it gives what the input gives; another file leaves the input as it is.
-        ensures bytes { self.old.source ≡ Input → IfOk result (λ n.
-            Consumes (I.remaining self.old.input) (I.remaining self.new.input) (take n room.new)) }
-        ensures end { self.old.source ≡ Input → IfOk result (λ n. n ≡ 0 → IsAtEnd (I.remaining self.new.input)) }
-        ensures unread { is_input self.old.source ≡ false → self.new.input ≡ self.old.input }
+        ensures disk { self.new.disk ≡ self.old.disk }
+        ensures input { self.new.input ≡ self.old.input }
     {
-        let given = match &mut self.source {
-            Source::Nothing => return Ok(0),
-            Source::Input => read_retrying(&mut self.input, room),
-            Source::Placed(file) => file.read(&mut self.input, self.given, room),
-            Source::Opened(file) => read_retrying(file, room),
+        let Some(count) = self.read_next(buffer) else {
+            self.fail();
+            return Err(CannotRead);
         };
-        match given {
-            Ok(count) => {
-                self.given = self.given.saturating_add(count as u64);
-                Ok(count)
-            }
-            Err(_) => {
-                self.fail();
-                Err(CannotRead)
-            }
-        }
+        Ok(count)
     }
 
     // Of a plain file that tells its length, and of no other: those of `/proc` tell 0.
-    fn peek(&self, name: &str, longest: u64, room: &mut [u8], hasher: &mut Hasher) -> bool {
+    fn hash_whole(&self, name: &str, longest: u64, buffer: &mut [u8], hasher: &mut Hasher) -> bool {
         if name == INPUT_NAME {
             return false;
         }
-        match self.files.metadata(name) {
-            Ok(metadata) if metadata.is_file() && (1..=longest).contains(&metadata.len()) => {}
+        match self.disk.plain_len(name) {
+            Some(len) if (1..=longest).contains(&len) => {}
             _ => return false,
         }
-        match File::open(self.files, name) {
-            Ok(file) => hash_file(&file, longest, room, hasher),
+        match self.disk.open(name) {
+            Ok(file) => hash_file(&file, longest, buffer, hasher),
             Err(_) => false,
         }
     }
 
     // All who read hold the one file that is open: another file under its name changes nothing.
-    fn read_at(&self, place: u64, room: &mut [u8]) -> Option<usize> {
-        let place = self.given.saturating_add(place);
-        match &self.source {
-            Source::Opened(file) => fill_at(file, place, room),
-            Source::Placed(file) => {
-                let mut input = self.input;
-                file.fill_at(&mut input, place, room)
-            }
-            Source::Nothing | Source::Input => None,
-        }
+    fn read_at(&self, offset: u64, buffer: &mut [u8]) -> Option<usize> {
+        self.source.fill_at(self.given, offset, buffer)
     }
 
     fn len_hint(&self) -> u64 {
-        let len = match &self.source {
-            Source::Opened(file) => match file.metadata() {
-                Ok(metadata) if metadata.is_file() => metadata.len(),
-                _ => 0,
-            },
-            Source::Placed(file) => file.len(),
-            Source::Nothing | Source::Input => 0,
-        };
-        len.saturating_sub(self.given)
+        self.source.len().saturating_sub(self.given)
     }
 }

@@ -1,93 +1,87 @@
-// Standard input that is a plain file, which workers read at places.
+// Standard input that is a plain file, which workers read at offsets.
 
-ghost use Rattle.std.specs.Prelude.{◌≡◌, ◌≤◌, length, IfSome};
-ghost use Rattle.std.specs.Io.{ReadsAtMost};
+ghost use Rattle.std.specs.Prelude.{◌≡◌, ◌+◌, ◌<◌, ◌≤◌, true, IsTrue, length, take, IfSome};
+ghost use Rattle.b3_check.specs.Contents.{Gives};
+ghost use Rattle.b3_program.specs.Files.{file_rest, input_rest};
 
+use crate::disk::{DiskFile, Input};
 use crate::retrying::{fill, fill_at, read_at_retrying, read_retrying};
-use std::fs::{File, OpenFile};
-use std::io::{self, Read};
-use std::os::unix::fs::FileExt;
-use std::rt::Files;
 use std::sync::atomic::{AtomicBool, Ordering};
 
-/// Where a system shows what standard input is.
-#[derive(Clone, Copy)]
-pub struct InputPaths<'a> {
-    /// The path by which its file is opened anew.
-    pub file: &'a str,
-    /// The path of a text whose first line is `pos:` and the place of the byte that comes next.
-    pub position: &'a str,
-}
-
-/// Where Linux shows it.
-pub const INPUT_PATHS: InputPaths<'static> = InputPaths {
-    file: "/proc/self/fd/0",
-    position: "/proc/self/fdinfo/0",
-};
-
-/// The plain file that an input is, opened anew.
+/// The plain file that an input is, opened anew, and the input.
 ///
-/// The input tells none of its bytes at a place, so these are the file's. Its position moves by reads alone, so
+/// The input tells none of its bytes at an offset, so these are the file's. Its position moves by reads alone, so
 /// it is read as far as the file is.
 #[derive(Drop)]
-pub struct InputFile<T> {
-    file: T,
-    // the place at which the input was
-    start: u64,
-    // whether some of it was read at a place, so that the input stands elsewhere
-    is_ahead: AtomicBool,
+pub struct InputFile<I, P> {
+    pub input: I,
+    pub file: P,
+    // the offset at which the input was
+    pub start: u64,
+    // whether some of it was read at an offset, so that the input stands elsewhere
+    pub is_ahead: AtomicBool,
+    // whether the input gave all that was read in order
+    pub is_in_step: bool,
 }
 
-/// The file of an input that is a plain file and tells a length.
-pub fn open_input<F: Files>(files: &F, paths: &InputPaths<'_>) -> Option<InputFile<F::File>> {
-    match files.metadata(paths.file) {
-        Ok(metadata) if metadata.is_file() && metadata.len() > 0 => {}
-        _ => return None,
-    }
-    Some(InputFile {
-        start: position(files, paths.position)?,
-        file: File::open(files, paths.file).ok()?,
-        is_ahead: AtomicBool::new(false),
-    })
-}
-
-// The place of the byte that comes next.
-fn position<F: Files>(files: &F, path: &str) -> Option<u64> {
-    let mut room = [0; 64];
-    let count = fill(&mut File::open(files, path).ok()?, &mut room).ok()?;
-    let text = str::from_utf8(&room[..count]).ok()?;
-    let (first, _others) = text.split_once('\n')?;
-    first.strip_prefix("pos:")?.trim().parse().ok()
-}
-
-impl<T: OpenFile + FileExt> InputFile<T> {
-    /// How many bytes the file has from the input's first on.
-    pub fn len(&self) -> u64 {
-        match self.file.metadata() {
-            Ok(metadata) => metadata.len().saturating_sub(self.start),
-            Err(_) => 0,
+impl<I: Input<File = P>, P: DiskFile> InputFile<I, P> {
+    /// The input and its file, which stands at this offset.
+    pub fn new(input: I, file: P, start: u64) -> InputFile<I, P>
+        ensures input { result.input ≡ input }
+        ensures file { result.file ≡ file }
+        ensures start { result.start ≡ start }
+        ensures in_step { result.is_in_step ≡ true }
+    {
+        InputFile {
+            input,
+            file,
+            start,
+            is_ahead: AtomicBool::new(false),
+            is_in_step: true,
         }
     }
 
-    /// Fills the room with the file's bytes from a place on, counted from the input's first. Nothing where a read fails.
-    pub fn fill_at<I: Read>(&self, input: &mut I, place: u64, room: &mut [u8]) -> Option<usize>
-        ensures len { length room.new ≡ length room.old }
-        ensures within { IfSome result (λ n. n ≤ length room.old) }
+    /// How many bytes the file has from the input's first on, where it tells its length.
+    pub fn len(&self) -> u64 {
+        self.file
+            .plain_len()
+            .unwrap_or(0)
+            .saturating_sub(self.start)
+    }
+
+    /// Fills the buffer with the file's bytes from an offset on, counted from the input's first. Nothing where a read
+    /// fails.
+    pub fn fill_at(&self, offset: u64, buffer: &mut [u8]) -> Option<usize>
+        ensures len { length buffer.new ≡ length buffer.old }
+        ensures within { IfSome result (λ n. n ≤ length buffer.old) }
+        ensures bytes { IsTrue P.tells → IfSome result (λ n.
+            take n buffer.new ≡ take (length buffer.old) (file_rest P.content self.now offset)) }
     {
         self.is_ahead.store(true, Ordering::SeqCst);
-        fill(input, room).ok()?;
-        fill_at(&self.file, self.start.saturating_add(place), room)
+        let mut input = self.input;
+        fill(&mut input, buffer)?;
+        fill_at(&self.file, self.start.checked_add(offset)?, buffer)
     }
 
     /// The next bytes, where so many were given.
-    pub fn read<I: Read>(&self, input: &mut I, given: u64, room: &mut [u8]) -> io::Result<usize>
-        ensures bound { ReadsAtMost result room.new }
-        ensures room { length room.new ≡ length room.old }
+    pub fn read(&mut self, given: u64, buffer: &mut [u8]) -> Option<usize>
+        requires buffer { 0 < length buffer.old }
+        requires in_step { IsTrue I.tells → IsTrue P.tells
+            → input_rest I.content I.position P.content self.old given ≡ file_rest P.content self.old given }
+        ensures within { IfSome result (λ n. n ≤ length buffer.old) }
+        ensures bytes { IsTrue I.tells → IsTrue P.tells → IfSome result (λ n.
+            Gives (file_rest P.content self.old given) (take n buffer.new) (file_rest P.content self.new (given + n))) }
+        ensures in_step { IsTrue I.tells → IsTrue P.tells → IfSome result (λ n.
+            input_rest I.content I.position P.content self.new (given + n)
+            ≡ file_rest P.content self.new (given + n)) }
     {
-        let count = read_retrying(input, room)?;
-        if !self.is_ahead.load(Ordering::SeqCst) {
-            return Ok(count);
+        let Ok(count) = read_retrying(&mut self.input, buffer) else {
+            return None;
+        };
+        if self.is_in_step && !self.is_ahead.load(Ordering::SeqCst) {
+            return Some(count);
         }
-        read_at_retrying(&self.file, self.start.saturating_add(given), room)
+        self.is_in_step = false;
+        read_at_retrying(&self.file, self.start.checked_add(given)?, buffer).ok()
     }
 }

@@ -2,20 +2,27 @@
 //! status. How the words are read is not known here.
 #![tactic(auto)]
 
+mod disk;
 mod files;
 mod input;
+mod lookup;
+mod memory_disk;
 mod outputs;
+mod real_disk;
 mod retrying;
 mod run;
 mod say;
+mod source;
 mod stop;
 mod task;
 mod usage;
 mod words;
 
+pub use disk::{Disk, DiskFile, Input, Stream};
 pub use files::FileShelf;
-pub use input::{INPUT_PATHS, InputPaths};
+pub use memory_disk::{MemoryDisk, MemoryFile, NamedFile};
 pub use outputs::OutputSink;
+pub use real_disk::{INPUT_PATHS, InputPaths, RealDisk, RealFile, RealInput};
 pub use run::run_words;
 pub use stop::Stop;
 pub use task::{Task, settle};

@@ -35,6 +35,13 @@ impl<W: Write> OutputSink<W> {
             ..self
         }
     }
+
+    /// The writer, with what was written.
+    pub fn into_writer(self) -> W
+        ensures { result ≡ self.writer }
+    {
+        self.writer
+    }
 }
 
 impl<W: Write> Sink for OutputSink<W> {

@@ -1,78 +1,85 @@
 // Reads and writes that are made again where a signal interrupts them.
 
-ghost use Rattle.std.specs.Prelude.{◌≡◌, ◌≤◌, length, IfOk, IfSome};
+ghost use Rattle.std.specs.Prelude.{◌≡◌, ◌+◌, ◌<◌, ◌≤◌, IsTrue, length, take, drop, IfSome};
 ghost use Rattle.std.specs.Io.{ReadsAtMost, WritesAtMost};
-ghost use Rattle.std.specs.Io.KnownBytes.{ReadConsumes, WriteAppends};
+ghost use Rattle.std.specs.Io.KnownBytes.{WriteAppends};
+ghost use Rattle.b3_program.specs.Disks.{ReadsAt, count_of};
 
-use std::io::{self, ErrorKind, Read, Write};
-use std::os::unix::fs::FileExt;
+use crate::disk::{DiskFile, Stream};
+use std::io::{self, ErrorKind, Write};
 
 /// How often an interrupted call is made at most.
 const TRIES: u32 = 1_000;
 
-/// Reads, as `Read::read` does.
-pub fn read_retrying<R: Read>(reader: &mut R, room: &mut [u8]) -> io::Result<usize>
-    ensures bound { ReadsAtMost result room.new }
-    ensures room { length room.new ≡ length room.old }
-    ensures bytes { ReadConsumes (R.remaining reader.old) (R.remaining reader.new) result room.new }
+/// Reads, as `Stream::read` does.
+pub fn read_retrying<S: Stream>(stream: &mut S, buffer: &mut [u8]) -> io::Result<usize>
+    requires buffer { 0 < length buffer.old }
+    ensures bound { ReadsAtMost result buffer.new }
+    ensures buffer { length buffer.new ≡ length buffer.old }
+    ensures bytes { IsTrue S.tells → ReadsAt (S.content stream.old) (S.position stream.old) result buffer.new }
+    ensures position { IsTrue S.tells → S.position stream.new ≡ S.position stream.old + count_of result }
+    ensures content { IsTrue S.tells → S.content stream.new ≡ S.content stream.old }
 {
     for _try in 1..TRIES {
-        match reader.read(room) {
+        match stream.read(buffer) {
             Err(error) if error.kind() == ErrorKind::Interrupted => {}
             result => return result,
         }
     }
-    reader.read(room)
+    stream.read(buffer)
 }
 
-/// Fills the room with a reader's next bytes, and answers how many there are: fewer than the room takes only where it
-/// ends.
-pub fn fill<R: Read>(reader: &mut R, room: &mut [u8]) -> io::Result<usize>
-    ensures len { length room.new ≡ length room.old }
-    ensures within { IfOk result (λ n. n ≤ length room.old) }
+/// Fills the buffer with a stream's next bytes, and answers how many there are: fewer than the buffer takes only where
+/// it ends. Nothing where a read fails.
+pub fn fill<S: Stream>(stream: &mut S, buffer: &mut [u8]) -> Option<usize>
+    ensures len { length buffer.new ≡ length buffer.old }
+    ensures within { IfSome result (λ n. n ≤ length buffer.old) }
 {
     let mut filled = 0;
-    while filled < room.len() {
-        let count = read_retrying(reader, &mut room[filled..])?;
+    while filled < buffer.len() {
+        let count = read_retrying(stream, &mut buffer[filled..]).ok()?;
         if count == 0 {
-            return Ok(filled);
+            return Some(filled);
         }
         filled += count;
     }
-    Ok(filled)
+    Some(filled)
 }
 
-/// Reads at a place, as `FileExt::read_at` does.
-pub fn read_at_retrying<F: FileExt>(file: &F, place: u64, room: &mut [u8]) -> io::Result<usize>
-    ensures bound { ReadsAtMost result room.new }
-    ensures room { length room.new ≡ length room.old }
+/// Reads at an offset, as `DiskFile::read_at` does.
+pub fn read_at_retrying<F: DiskFile>(file: &F, offset: u64, buffer: &mut [u8]) -> io::Result<usize>
+    requires buffer { 0 < length buffer.old }
+    ensures bound { ReadsAtMost result buffer.new }
+    ensures buffer { length buffer.new ≡ length buffer.old }
+    ensures bytes { IsTrue F.tells → ReadsAt (F.content file.now) offset result buffer.new }
 {
     for _try in 1..TRIES {
-        match file.read_at(room, place) {
+        match file.read_at(offset, buffer) {
             Err(error) if error.kind() == ErrorKind::Interrupted => {}
             result => return result,
         }
     }
-    file.read_at(room, place)
+    file.read_at(offset, buffer)
 }
 
-/// Fills the room with a file's bytes from a place on, and answers how many there are: fewer than the room takes only
-/// where the file ends. Nothing where a read fails.
-pub fn fill_at<F: FileExt>(file: &F, place: u64, room: &mut [u8]) -> Option<usize>
-    ensures len { length room.new ≡ length room.old }
-    ensures within { IfSome result (λ n. n ≤ length room.old) }
+/// Fills the buffer with a file's bytes from an offset on, and answers how many there are: fewer than the buffer takes
+/// only where the file ends. Nothing where a read fails.
+pub fn fill_at<F: DiskFile>(file: &F, offset: u64, buffer: &mut [u8]) -> Option<usize>
+    ensures len { length buffer.new ≡ length buffer.old }
+    ensures within { IfSome result (λ n. n ≤ length buffer.old) }
+    ensures bytes { IsTrue F.tells
+        → IfSome result (λ n. take n buffer.new ≡ take (length buffer.old) (drop offset (F.content file.now))) }
 {
     let mut filled = 0;
-    while filled < room.len() {
-        match read_at_retrying(
-            file,
-            place.saturating_add(filled as u64),
-            &mut room[filled..],
-        ) {
-            Ok(0) => return Some(filled),
-            Ok(count) => filled += count,
-            Err(_) => return None,
+    while filled < buffer.len() {
+        let start = offset.checked_add(filled as u64)?;
+        let Ok(count) = read_at_retrying(file, start, &mut buffer[filled..]) else {
+            return None;
+        };
+        if count == 0 {
+            return Some(filled);
         }
+        filled += count;
     }
     Some(filled)
 }

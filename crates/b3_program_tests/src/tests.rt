@@ -1,5 +1,6 @@
-// The shelf of real files and the sinks over writers.
+// The shelf of real files, what it forwards to, and the sinks over writers.
 
 mod files;
 mod inputs;
 mod outputs;
+mod real_disk;

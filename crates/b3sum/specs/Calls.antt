@@ -1,6 +1,7 @@
 -- What a call of the program does, from its arguments on.
-use Rattle.std.specs.Prelude.{◌≡◌, ◌⊎◌, ⊤, ℕ, Result, Ok, Err, IsOk}
+use Rattle.std.specs.Prelude.{◌≡◌, ◌⊎◌, ⊤, ℕ, false, List, Option, Result, Ok, Err, IsOk}
 use Rattle.std.specs.declared.io.Error.{Error}
+use Rattle.b3_check.specs.Contents.{Contents}
 use Rattle.b3_check.specs.Runs.{Scene}
 use Rattle.b3_program.specs.Programs.{Ends}
 use Rattle.b3_program.specs.Stops.{EndsBy, IsStopForInput}
@@ -28,3 +29,21 @@ pub record EndsByWords {A : Type 0} (arguments : Result A Error) (before after :
 abbrev pub EndsCall : {A : Type 0} → Result A Error → Scene → Scene → ℕ → Type 0
 EndsCall arguments before after status =
     EndsEarly arguments before after status ⊎ EndsByWords arguments before after status
+
+-- the scene of a shelf and two outputs that have not failed
+abbrev pub fresh : Option Contents → Option (List ℕ) → Option (List ℕ) → Scene
+fresh told out err = record {
+  told = told;
+  sure = false;
+  failures = 0;
+  out = record { failures = 0; held = out };
+  err = record { failures = 0; held = err };
+}
+
+-- the call over a shelf that tells this, and over these outputs: what they hold afterwards, and the status
+pub record CallsWith {A : Type 0} (arguments : Result A Error) (told : Option Contents)
+    (out err out_after err_after : Option (List ℕ)) (status : ℕ) : Type 0 where
+  pub after : Scene
+  pub ends : EndsCall arguments (fresh told out err) after status
+  pub out_is : after.out.held ≡ out_after
+  pub err_is : after.err.held ≡ err_after

@@ -1,6 +1,6 @@
 //! `b3sum`: BLAKE3 checksums of files, written and checked.
 //!
-//! `main` opens the streams and hands the arguments to [`run_call`], which has `clap` read the words, and `b3_program`
+//! `main` opens the streams and hands the arguments to [`call_with`], which has `clap` read the words, and `b3_program`
 //! do what they ask for.
 #![tactic(auto)]
 
@@ -13,24 +13,25 @@ mod words;
 
 use arguments::arguments;
 use b3_board::OpenGate;
-use b3_program::{FileShelf, INPUT_PATHS, OutputSink};
-use call::run_call;
+use b3_program::{INPUT_PATHS, RealDisk, RealInput};
+use call::call_with;
 use std::io::IsTerminal;
 use std::process::ExitCode;
 
 fn main(rt: HostRuntime) -> ExitCode {
-    let mut shelf = FileShelf::new(&rt, rt.stdin()).shown_at(INPUT_PATHS);
     // Over a terminal each line is seen as soon as it is due.
-    let mut out = OutputSink::new(rt.stdout()).gathering(!rt.stdout().is_terminal());
-    let mut err = OutputSink::new(rt.stderr());
-    let arguments = arguments(&rt, rt.alloc());
-    ExitCode::from(run_call(
-        &rt,
-        rt.alloc(),
-        arguments,
-        &mut shelf,
-        &mut out,
-        &mut err,
-        &OpenGate,
-    ))
+    ExitCode::from(
+        call_with(
+            &rt,
+            rt.alloc(),
+            arguments(&rt, rt.alloc()),
+            RealDisk::new(&rt),
+            RealInput::new(&rt, rt.stdin(), INPUT_PATHS),
+            rt.stdout(),
+            !rt.stdout().is_terminal(),
+            rt.stderr(),
+            &OpenGate,
+        )
+        .status,
+    )
 }

@@ -1,9 +1,10 @@
 // The files of a shelf of real files.
 
+use super::inputs::NOT_SHOWN;
 use b3_check::{NoContent, Shelf};
 use b3_core::Mode;
 use b3_hash::Hasher;
-use b3_program::FileShelf;
+use b3_program::{FileShelf, MemoryFile, RealDisk, RealInput};
 use std::alloc::{AllocError, Allocator};
 use std::fs::{File, Metadata, OpenFile, OpenOptions};
 use std::io::{self, ErrorKind, Read, Seek, SeekFrom, Write};
@@ -14,22 +15,22 @@ use std::sync::atomic::{AtomicU64, Ordering};
 use std::test::Fail;
 
 // The program that runs: a plain file of some length.
-const OWN_PROGRAM: &str = "/proc/self/exe";
+pub const OWN_PROGRAM: &str = "/proc/self/exe";
 
-// A file in memory that gives one byte a call, and at a place is interrupted before each call that it lets through.
+// A file in memory that gives one byte a call, and at an offset is interrupted before each call that it lets through.
 #[derive(Drop)]
 pub struct BytewiseFile<'a> {
     content: &'a [u8],
-    place: usize,
+    offset: usize,
     calls: AtomicU64,
 }
 
 impl Read for BytewiseFile<'_> {
     fn read(&mut self, buf: &mut [u8]) -> io::Result<usize> {
-        let rest = &self.content[self.place.min(self.content.len())..];
+        let rest = &self.content[self.offset.min(self.content.len())..];
         let count = rest.len().min(buf.len()).min(1);
         buf[..count].copy_from_slice(&rest[..count]);
-        self.place = self.place.saturating_add(count);
+        self.offset = self.offset.saturating_add(count);
         Ok(count)
     }
 }
@@ -127,7 +128,7 @@ impl<'a> Files for Paths<'a> {
     fn open_file(&self, _how: &OpenOptions, path: &str) -> io::Result<BytewiseFile<'a>> {
         Ok(BytewiseFile {
             content: self.content(path)?,
-            place: 0,
+            offset: 0,
             calls: AtomicU64::new(0),
         })
     }
@@ -170,13 +171,10 @@ impl<'a> Files for Paths<'a> {
 }
 
 // The digest of the file of this name, if it is hashed beside others.
-fn peeked<F: Files>(shelf: &FileShelf<'_, F, &[u8]>, name: &str, longest: u64) -> Option<[u8; 32]>
-where
-    F::File: FileExt,
-{
-    let mut room = [0; 1_000];
+fn digest_of_whole<S: Shelf>(shelf: &S, name: &str, longest: u64) -> Option<[u8; 32]> {
+    let mut buffer = [0; 1_000];
     let mut hasher = Hasher::new(Mode::hash());
-    if !shelf.peek(name, longest, &mut room, &mut hasher) {
+    if !shelf.hash_whole(name, longest, &mut buffer, &mut hasher) {
         return None;
     }
     Some(digest_of(&hasher))
@@ -216,27 +214,30 @@ fn the_named_file_is_opened(rt: HostRuntime) -> Result<(), AllocError> {
         long.as_str(),
     ] {
         let files = Paths::one(path, b"four");
-        let mut shelf = FileShelf::new(&files, b"".as_slice());
+        let mut shelf = FileShelf::new(RealDisk::new(&files), MemoryFile::new(b""));
         assert_eq!(&rt; shelf.begin(path), Ok(()), "{path}");
         assert_eq!(&rt; shelf.begin("another"), Err(NoContent::Missing), "{path}");
-        assert!(&rt; peeked(&shelf, path, u64::MAX).is_some(), "{path}");
-        assert!(&rt; peeked(&shelf, "another", u64::MAX).is_none(), "{path}");
+        assert!(&rt; digest_of_whole(&shelf, path, u64::MAX).is_some(), "{path}");
+        assert!(&rt;
+            digest_of_whole(&shelf, "another", u64::MAX).is_none(),
+            "{path}"
+        );
     }
     Ok(())
 }
 
 #[test]
 fn a_folder_is_no_file(rt: HostRuntime) {
-    let mut shelf = FileShelf::new(&rt, b"".as_slice());
-    let mut room = [0; 8];
+    let mut shelf = FileShelf::new(RealDisk::new(&rt), MemoryFile::new(b""));
+    let mut buffer = [0; 8];
     let is_begun = shelf.begin("/").is_ok();
-    assert_eq!(rt; shelf.read(&mut room).is_err(), is_begun);
+    assert_eq!(rt; shelf.read(&mut buffer).is_err(), is_begun);
 }
 
 // What should be a folder on its way is a file; and a name that is too long is no missing one.
 #[test]
 fn a_name_below_a_file_is_missing(rt: HostRuntime) -> Result<(), AllocError> {
-    let mut shelf = FileShelf::new(&rt, b"".as_slice());
+    let mut shelf = FileShelf::new(RealDisk::new(&rt), MemoryFile::new(b""));
     assert_eq!(rt; shelf.begin("/proc/self/exe/"), Err(NoContent::Missing));
     assert_eq!(rt; shelf.begin("/proc/self/exe/x"), Err(NoContent::Missing));
     let mut long = String::new(rt.alloc());
@@ -249,7 +250,7 @@ fn a_name_below_a_file_is_missing(rt: HostRuntime) -> Result<(), AllocError> {
 
 #[test]
 fn a_plain_file_alone_is_looked_at(rt: HostRuntime) {
-    let shelf = FileShelf::new(&rt, b"four".as_slice());
+    let shelf = FileShelf::new(RealDisk::new(&rt), MemoryFile::new(b"four"));
     for name in [
         "-",
         "/",
@@ -257,22 +258,22 @@ fn a_plain_file_alone_is_looked_at(rt: HostRuntime) {
         "/proc/self/stat",
         "a file that is not there",
     ] {
-        assert_eq!(rt; peeked(&shelf, name, u64::MAX), None, "{name}");
+        assert_eq!(rt; digest_of_whole(&shelf, name, u64::MAX), None, "{name}");
     }
-    assert_eq!(rt; peeked(&shelf, OWN_PROGRAM, 1_024), None);
+    assert_eq!(rt; digest_of_whole(&shelf, OWN_PROGRAM, 1_024), None);
 }
 
 // The bytes of the program that runs, read in order.
-fn own_program<R: Files + AllocGlobal>(rt: &R) -> Result<Vec<u8>, Fail> {
+pub fn own_program<R: Files + AllocGlobal>(rt: &R) -> Result<Vec<u8>, Fail> {
     let mut file = File::open(rt, OWN_PROGRAM)?;
     let mut content = Vec::new(rt.alloc());
-    let mut room = [0; 4_096];
+    let mut buffer = [0; 4_096];
     for _ in 0..1_000_000u64 {
-        let count = file.read(&mut room)?.min(4_096);
+        let count = file.read(&mut buffer)?.min(4_096);
         if count == 0 {
             break;
         }
-        content.extend_from_slice(&room[..count])?;
+        content.extend_from_slice(&buffer[..count])?;
     }
     Ok(content)
 }
@@ -283,36 +284,28 @@ fn a_file_is_looked_at_piece_by_piece(rt: HostRuntime) -> Result<(), Fail> {
     let mut hasher = Hasher::new(Mode::hash());
     hasher.update(content.as_slice())?;
     let len = hasher.len();
-    let shelf = FileShelf::new(&rt, b"".as_slice());
+    let shelf = FileShelf::new(RealDisk::new(&rt), MemoryFile::new(b""));
     assert!(rt; len > 100_000);
-    assert_eq!(rt; peeked(&shelf, OWN_PROGRAM, len), Some(digest_of(&hasher)));
-    assert_eq!(rt; peeked(&shelf, OWN_PROGRAM, len - 1), None);
+    assert_eq!(rt;
+        digest_of_whole(&shelf, OWN_PROGRAM, len),
+        Some(digest_of(&hasher))
+    );
+    assert_eq!(rt; digest_of_whole(&shelf, OWN_PROGRAM, len - 1), None);
     Ok(())
 }
 
-// What the shelf gives at a place is what stands there of the rest of the file.
-pub fn assert_at<F: Files, I: Read + Copy>(
-    rt: &impl Abort,
-    shelf: &FileShelf<'_, F, I>,
-    rest: &[u8],
-    place: usize,
-)
-where
-    F::File: FileExt,
-{
-    let mut room = [0; 1_000];
-    let wanted = &rest[place.min(rest.len())..];
+// What the shelf gives at an offset is what stands there of the rest of the file.
+pub fn assert_at<S: Shelf>(rt: &impl Abort, shelf: &S, rest: &[u8], offset: usize) {
+    let mut buffer = [0; 1_000];
+    let wanted = &rest[offset.min(rest.len())..];
     let wanted = &wanted[..wanted.len().min(1_000)];
-    let given = shelf.read_at(place as u64, &mut room);
-    assert_eq!(rt; given, Some(wanted.len()), "at {place}");
-    assert!(rt; room.starts_with(wanted), "at {place}");
+    let given = shelf.read_at(offset as u64, &mut buffer);
+    assert_eq!(rt; given, Some(wanted.len()), "at {offset}");
+    assert!(rt; buffer.starts_with(wanted), "at {offset}");
 }
 
-// The same at many places, also around the end of the file.
-fn assert_places<F: Files>(rt: &impl Abort, shelf: &FileShelf<'_, F, &[u8]>, rest: &[u8])
-where
-    F::File: FileExt,
-{
+// The same at many offsets, also around the end of the file.
+fn assert_offsets<S: Shelf>(rt: &impl Abort, shelf: &S, rest: &[u8]) {
     assert_eq!(rt; shelf.len_hint(), rest.len() as u64);
     for k in 0..500usize {
         assert_at(rt, shelf, rest, k);
@@ -322,33 +315,36 @@ where
     }
 }
 
-// A file gives at its places what it gives in order, and stays where it is.
+// A file gives at its offsets what it gives in order, and stays where it is.
 #[test]
-fn a_file_is_read_at_its_places(rt: HostRuntime) -> Result<(), Fail> {
+fn a_file_is_read_at_its_offsets(rt: HostRuntime) -> Result<(), Fail> {
     let content = own_program(&rt)?;
     let content = content.as_slice();
-    let mut shelf = FileShelf::new(&rt, b"".as_slice());
-    let mut room = [0; 4_096];
+    let mut shelf = FileShelf::new(RealDisk::new(&rt), MemoryFile::new(b""));
+    let mut buffer = [0; 4_096];
     assert_eq!(rt; shelf.begin(OWN_PROGRAM), Ok(()));
-    assert_places(&rt, &shelf, content);
-    let count = shelf.read(&mut room).unwrap_or(0).min(content.len());
+    assert_offsets(&rt, &shelf, content);
+    let count = shelf.read(&mut buffer).unwrap_or(0).min(content.len());
     assert!(rt; count > 0);
     let rest = &content[count..];
-    assert_places(&rt, &shelf, rest);
-    let count = shelf.read(&mut room).unwrap_or(0).min(4_096);
-    assert!(rt; count > 0 && rest.starts_with(&room[..count]));
+    assert_offsets(&rt, &shelf, rest);
+    let count = shelf.read(&mut buffer).unwrap_or(0).min(4_096);
+    assert!(rt; count > 0 && rest.starts_with(&buffer[..count]));
     Ok(())
 }
 
 #[test]
 fn a_plain_file_alone_tells_its_length(rt: HostRuntime) {
-    let mut shelf = FileShelf::new(&rt, b"four".as_slice());
-    let mut room = [0; 8];
+    let mut shelf = FileShelf::new(
+        RealDisk::new(&rt),
+        RealInput::new(&rt, b"four".as_slice(), NOT_SHOWN),
+    );
+    let mut buffer = [0; 8];
     assert_eq!(rt; shelf.len_hint(), 0);
-    assert_eq!(rt; shelf.read_at(0, &mut room), None);
+    assert_eq!(rt; shelf.read_at(0, &mut buffer), None);
     assert_eq!(rt; shelf.begin("-"), Ok(()));
     assert_eq!(rt; shelf.len_hint(), 0);
-    assert_eq!(rt; shelf.read_at(0, &mut room), None);
+    assert_eq!(rt; shelf.read_at(0, &mut buffer), None);
     assert_eq!(rt; shelf.begin("/dev/null"), Ok(()));
     assert_eq!(rt; shelf.len_hint(), 0);
     assert_eq!(rt; shelf.begin("/proc/self/stat"), Ok(()));
@@ -360,22 +356,22 @@ const DIGEST: &[u8; 32] = b"\xd0\x02\x78\xae\x47\xeb\x27\xb3\x4f\xae\xcf\x67\xb4
       \x82\xd5\x41\x29\x16\xc1\xff\xd9\x7c\x8c\xb7\xfb\x81\x4b\x84\x44";
 
 #[test]
-fn a_read_at_a_place_is_made_again_until_the_room_is_full(rt: HostRuntime) -> Result<(), Fail> {
+fn a_read_at_an_offset_is_made_again_until_the_buffer_is_full(rt: HostRuntime) -> Result<(), Fail> {
     let mut content = Vec::new(rt.alloc());
     for k in 0..1_025u64 {
         content.push((k % 251) as u8)?;
     }
     let files = Paths::one("a", content.as_slice());
-    let mut shelf = FileShelf::new(&files, b"".as_slice());
-    let mut room = [0; 8];
-    assert_eq!(rt; peeked(&shelf, "a", 1_025), Some(*DIGEST));
-    assert_eq!(rt; peeked(&shelf, "a", 1_024), None);
+    let mut shelf = FileShelf::new(RealDisk::new(&files), MemoryFile::new(b""));
+    let mut buffer = [0; 8];
+    assert_eq!(rt; digest_of_whole(&shelf, "a", 1_025), Some(*DIGEST));
+    assert_eq!(rt; digest_of_whole(&shelf, "a", 1_024), None);
     assert_eq!(rt; shelf.begin("a"), Ok(()));
-    assert_eq!(rt; shelf.read(&mut room), Ok(1));
+    assert_eq!(rt; shelf.read(&mut buffer), Ok(1));
     assert_eq!(rt; shelf.len_hint(), 1_024);
     let rest = &content[content.len().min(1)..];
-    for place in [0, 1, 23, 24, 25, 1_000, 1_020, 1_024, 1_025] {
-        assert_at(&rt, &shelf, rest, place);
+    for offset in [0, 1, 23, 24, 25, 1_000, 1_020, 1_024, 1_025] {
+        assert_at(&rt, &shelf, rest, offset);
     }
     Ok(())
 }

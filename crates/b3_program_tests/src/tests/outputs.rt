@@ -42,18 +42,18 @@ impl<T: Write> Write for Interrupted<T> {
 
 #[test]
 fn an_interrupted_write_is_made_again(rt: HostRuntime) {
-    let mut room = [0; 8];
-    let first = Interrupted::new(room.as_mut_slice()).write(b"four");
+    let mut buffer = [0; 8];
+    let first = Interrupted::new(buffer.as_mut_slice()).write(b"four");
     assert!(rt; first.is_err_and(|error| error.kind() == ErrorKind::Interrupted));
-    let mut sink = OutputSink::new(Interrupted::new(room.as_mut_slice()));
+    let mut sink = OutputSink::new(Interrupted::new(buffer.as_mut_slice()));
     assert_eq!(rt; sink.write(b"four"), Ok(4));
     assert_eq!(rt; sink.write(b"more"), Ok(4));
 }
 
 #[test]
 fn a_writer_that_takes_nothing_fails(rt: HostRuntime) {
-    let mut room = [0; 3];
-    let mut sink = OutputSink::new(room.as_mut_slice());
+    let mut buffer = [0; 3];
+    let mut sink = OutputSink::new(buffer.as_mut_slice());
     assert_eq!(rt; sink.write(b"four"), Ok(3));
     assert_eq!(rt; sink.write(b""), Ok(0));
     assert_eq!(rt; sink.write(b"r"), Err(SinkFailed));

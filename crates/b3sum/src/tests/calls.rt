@@ -5,7 +5,7 @@ ghost use Rattle.std.specs.Prelude.{◌≡◌, IfOk};
 use crate::call::run_call;
 use b3_board::OpenGate;
 use b3_check::{MemoryShelf, MemorySink, Shelf, Sink};
-use b3_program::{FileShelf, OutputSink};
+use b3_program::{FileShelf, MemoryFile, OutputSink, RealDisk};
 use std::alloc::{AllocError, Global};
 use std::io;
 use std::process::Abort;
@@ -59,7 +59,7 @@ fn assert_call<R: Abort + Threads + Wait + Sync, S: Shelf + Send + Sync>(
 macro_rules! assert_piped {
     ($rt:expr, $input:expr, $words:expr, $out:expr, $err:expr, $status:expr $(,)?) => {{
         let input: &[u8] = $input;
-        let mut shelf = FileShelf::new($rt, input);
+        let mut shelf = FileShelf::new(RealDisk::new($rt), MemoryFile::new(input));
         assert_call($rt, $rt.alloc(), &mut shelf, $words, $out, $err, $status)
     }};
 }
@@ -377,7 +377,7 @@ fn arguments_that_cannot_be_had(rt: HostRuntime) {
         (io::ErrorKind::OutOfMemory, "b3sum: out of memory\n", 1),
     ];
     for (kind, text, status) in &rows {
-        let mut shelf = FileShelf::new(&rt, b"".as_slice());
+        let mut shelf = FileShelf::new(RealDisk::new(&rt), MemoryFile::new(b""));
         let mut out = MemorySink::new(rt.alloc());
         let mut err = MemorySink::new(rt.alloc());
         let arguments = Err(io::Error::from(*kind));
@@ -416,11 +416,11 @@ fn assert_cut_short<R: Abort + AllocGlobal + Threads + Wait + Sync, S: Shelf + S
 
 #[test]
 fn an_output_that_is_full(rt: HostRuntime) -> Result<(), AllocError> {
-    let mut shelf = FileShelf::new(&rt, b"".as_slice());
+    let mut shelf = FileShelf::new(RealDisk::new(&rt), MemoryFile::new(b""));
     assert_cut_short(&rt, &mut shelf, &[])?;
-    let mut shelf = FileShelf::new(&rt, b"".as_slice());
+    let mut shelf = FileShelf::new(RealDisk::new(&rt), MemoryFile::new(b""));
     assert_cut_short(&rt, &mut shelf, &["--help"])?;
-    let mut shelf = FileShelf::new(&rt, b"".as_slice());
+    let mut shelf = FileShelf::new(RealDisk::new(&rt), MemoryFile::new(b""));
     assert_cut_short(&rt, &mut shelf, &["--version"])?;
     let mut shelf = two_lists(rt.alloc())?;
     assert_cut_short(

@@ -1,4 +1,4 @@
-use Rattle.std.proofs.Common.{◌≡◌, List, length, ℕ}
+use Rattle.std.proofs.Common.{◌≡◌, IsTrue, List, length, take, ℕ}
 use Rattle.b3_hash.specs.Hashers.{StandsFor, mode_of}
 use Rattle.b3_program.proofs.files.hash_file.Given as goal
 
@@ -7,6 +7,7 @@ abbrev pub invariant-loop : goal.invariant-loop
 invariant-loop g l = record {
   content : List ℕ;
   stands : StandsFor l.hasher content;
+  is : IsTrue g.F.Stream.tells → content ≡ take l.offset (g.F.Stream.content l.file);
   mode : mode_of l.hasher ≡ mode_of l.fn.hasher;
-  len : length l.room ≡ length l.fn.room;
+  len : length l.buffer ≡ length l.fn.buffer;
 }

@@ -1,0 +1,19 @@
+-- What files and streams give, where they tell their bytes.
+use Rattle.std.specs.Prelude.{◌≡◌, ◌⊎◌, ℕ, ◌+◌, List, drop, take, Result, Ok, Err, IfOk}
+use Rattle.std.specs.declared.io.ErrorKind.{ErrorKind}
+use Rattle.std.specs.declared.io.ErrorKind.TheVariants.{NotFound, NotADirectory}
+use Rattle.b3_check.specs.Contents.{Gives}
+
+-- how many bytes a read gave
+abbrev pub count_of : {E : Type 0} → Result ℕ E → ℕ
+count_of (Ok n) = n
+count_of (Err error) = 0
+
+-- a read gave bytes of a content from an offset on, and none only at the end
+abbrev pub ReadsAt : {E : Type 0} → List ℕ → ℕ → Result ℕ E → List ℕ → Type 0
+ReadsAt content offset result buffer =
+    IfOk result (λ n. Gives (drop offset content) (take n buffer) (drop (offset + n) content))
+
+-- no such name is there, or what should be a folder on its way is none
+abbrev pub IsOfMissing : ErrorKind → Type 0
+IsOfMissing kind = (kind ≡ NotFound) ⊎ (kind ≡ NotADirectory)
