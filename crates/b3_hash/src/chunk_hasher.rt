@@ -63,6 +63,12 @@ impl ChunkHasher {
         }
     }
 
+    pub(crate) fn mode(&self) -> Mode
+        ensures { result ≡ self.now.mode }
+    {
+        self.mode
+    }
+
     // The number of bytes.
     pub(crate) fn len(&self) -> u64
         ensures { result ≡ chunks_len self.now }

@@ -98,6 +98,15 @@ impl Hasher {
         }
     }
 
+    /// Starts over, with an input in the same mode of which no bytes have come.
+    pub fn reset(&mut self)
+        ensures mode { mode_of self.new ≡ mode_of self.old }
+        ensures stands_for { StandsFor self.new [] }
+        ensures len { length_of self.new ≡ 0 }
+    {
+        *self = Hasher::new(self.chunks.mode());
+    }
+
     /// The number of bytes that have come, those of windows with them.
     pub fn len(&self) -> u64
         ensures value { result ≡ length_of self.now }

@@ -1,0 +1,47 @@
+-- `blake3_hasher_init` meets its contract: a walk of its MIR, by hand. The new hasher is written into the room at the pointer.
+use Rattle.b3_c.proofs.Steps.{[], ◌∷◌, refl, proved, full_share, sep, id⊢, ftrue, vunit, WpFn, fact, tables, sem, ‵, raw, ◌⊛◌, some, later, prop, ◌$◌, ◌∵◌, !, qed, done, move, keep, drop, use1, use2, split, join, feq_i, pick, show, await, regoal, suffices, frame, group, enter, of_opd, unit_lit, stop, no_more, returns, alloc_all, pass_all, free_all, look_at, get, through, sets, lands_as, assigns, init, yes, Is, shows, Ptr, RawPtr, block_ptr, lies_at, room_at, in_a_block, rawptr_vals, rawptr_Tells, plain, nothing, heard, peeks, calls_at, on_entry, triple_of, Stays, walk_of, says, stay_dropped, Goes-dropped, ends_at, framed, HasherRow, State}
+use Rattle.b3_c.proofs.Pointers.{placed}
+use Rattle.b3_c.specs.Calls.{IsNew}
+use Rattle.b3_core.specs.Modes.{hash_mode}
+use Rattle.b3_hash.proofs.hasher.Hasher.TheLaws.{the_row_laws}
+use Rattle.b3_c.specs.contracts.blake3_hasher_init as f
+use Rattle.b3_c.proofs.blake3_hasher_init.Statement.{statement}
+use Rattle.b3_c.proofs.blake3_hasher_init.Code as code
+use Rattle.b3_c.specs.contracts.calls.plain_hasher as g
+use Rattle.b3_c.proofs.calls.plain_hasher.Met.{met}
+
+abbrev stayed : Stays f.ended.signature.params f.ended.kept
+stayed = (stay_dropped _ yes, tt)
+
+pub blake3_hasher_init_spec : {M : Type 1} → statement M
+blake3_hasher_init_spec 𝓤 𝓛 𝓜 𝓡 wired =
+    let c = f.clauses 𝓛 𝓜.mem 𝓡.returns in let W = walk_of 𝓛 f.ended stayed c in let 𝓣 = tables 𝓤 𝓛.H 𝓜 𝓡 𝓡.env in
+    proved 𝓛 f.ended stayed c 𝓜 𝓡 (Goes-dropped 𝓛 0 (plain (λ _. RawPtr)) yes (λ κs x w. refl), tt)
+    f.Key.name code.function (code.unfolded 𝓤 𝓛.H 𝓜 𝓡 wired)
+    (λ κs. (rawptr_vals, tt)) (λ κs. (rawptr_Tells, tt)) (λ κs qs bounds a _ are.
+    let R = HasherRow in
+    let y : Ptr → W.Ghost = λ p. ((κs, qs, bounds, (p, tt), (rawptr_vals p, tt)), tt) in
+    qed 𝓛 (raw (on_entry 𝓛 f.signature κs qs a (y a.0).0.4) ∷ ‵ (room_at R a.0) ∷ []) ∵ drop ! $
+    in_a_block ! a.0 (λ p. room_at R p) (id⊢ 𝓤 _) (λ b o e.
+    regoal ! (λ p. prop (WpFn 𝓤 𝓛.H 𝓣.C 𝓣.Λ code.function (rawptr_vals p) (W.post (y p)))) e refl $
+    enter ! _ _ _ _ _ $ alloc_all ! (λ l. pass_all ! refl ((tt, tt), tt) $
+    sets ! (of_opd ! (get ! refl)) refl (tt, tt) $
+    let G = triple_of 𝓛 g.signature (g.spec 𝓛 𝓜.mem 𝓡.returns) in
+    let z : G.Ghost = ((tt, tt, tt, tt, tt), tt) in
+    nothing ! $ nothing ! $ join ! $ nothing ! $ move ! (1 ∷ 0 ∷ []) $ use2 𝓛 (raw (G.pre z)) (id⊢ 𝓤 _) $
+    calls_at ! (framed 𝓤 𝓛.H 𝓜 𝓣) G (met 𝓤 𝓛 𝓜 𝓡 (code.calls-b3_c::calls::plain_hasher 𝓡.env wired)) z (no_more !) (λ v.
+    use1 𝓛 (later (some (λ (t : State). (‵ ftrue ⊛ ‵ (R.own_val t (v ∷ []))) ⊛
+    some (λ (ws : Unit {0}). ‵ ftrue ⊛ raw (fact 𝓤 (IsNew hash_mode t)))))) (id⊢ 𝓤 _) $
+    await ! tt $ pick ! (λ t. split ! $ split ! $ move ! (2 ∷ []) $ pick ! (λ ws. split ! $ drop ! $ heard ! _ (λ is_new.
+    -- [the token; the hasher's parts; the room]
+    move ! (1 ∷ []) $
+    peeks ! R (Is R) (shows 𝓛 R) t (v ∷ []) (λ is. let good = (((the_row_laws).lawful 𝓛).typed t (v ∷ []) is).0 in
+    lands_as ! refl refl good $
+    assigns ! (of_opd ! (get ! refl)) (through ! refl (stop !)) (init ! 2 refl good) $
+    sets ! (of_opd ! (unit_lit !)) refl (tt, tt) $
+    returns ! (look_at ! 0 refl) $ free_all ! refl $ keep ! (2 ∷ 0 ∷ 1 ∷ []) $
+    use2 𝓛 (‵ (lies_at R full_share (block_ptr b o) t)) (placed 𝓛 t v b o) $ move ! (1 ∷ 0 ∷ []) $
+    -- [the token; the hasher]
+    suffices ! _ (ends_at 𝓛 f.ended stayed c (y (block_ptr b o)) vunit tt (tt, tt) (tt, tt)) $
+    feq_i ! _ (vunit ∷ []) _ refl $ nothing ! $ nothing ! $ join ! $ move ! (2 ∷ 0 ∷ 1 ∷ []) $ group ! 3 $ frame ! $
+    show ! (λ (t : State). sep 𝓤 (sem 𝓛 (lies_at R full_share (block_ptr b o) t)) (fact 𝓤 (IsNew (hash_mode) t))) t $ says ! is_new $ done !))))))))
