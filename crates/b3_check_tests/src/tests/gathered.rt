@@ -62,7 +62,13 @@ impl Shelf for EmptyFiles<'_> {
         Ok(count)
     }
 
-    fn hash_whole(&self, name: &str, _longest: u64, _room: &mut [u8], _hasher: &mut Hasher) -> bool {
+    fn hash_whole(
+        &self,
+        name: &str,
+        _longest: u64,
+        _room: &mut [u8],
+        _hasher: &mut Hasher,
+    ) -> bool {
         if name == "late" {
             let written = self.written.load(Ordering::SeqCst);
             self.before_late.store(written, Ordering::SeqCst);
