@@ -62,36 +62,3 @@ fn one(alloc: Global, name: String) -> Result<Vec<String>, AllocError>
     names.push(name)?;
     Ok(names)
 }
-
-#[cfg(test)]
-mod tests {
-    use super::sum_one;
-    use b3_check::MemorySink;
-    use b3_program::NamedFile;
-    use std::alloc::AllocError;
-
-    #[test]
-    fn a_file_in_memory_has_its_line(rt: HostRuntime) -> Result<(), AllocError> {
-        let files = [
-            NamedFile {
-                name: "another",
-                content: b"four",
-            },
-            NamedFile {
-                name: "abc",
-                content: b"abc",
-            },
-        ];
-        let mut out = MemorySink::new(rt.alloc());
-        let mut err = MemorySink::new(rt.alloc());
-        let name = String::from_str(rt.alloc(), "abc")?;
-        let ran = sum_one(&rt, rt.alloc(), &files, b"", name, &mut out, &mut err);
-        assert!(&rt; ran.is_ok());
-        assert_eq!(&rt;
-            out.bytes(),
-            b"6437b3ac38465133ffb63b75273a8db548c558465d79db03fd359c6cd5bd9d85  abc\n".as_slice()
-        );
-        assert!(&rt; err.bytes().is_empty());
-        Ok(())
-    }
-}

@@ -51,7 +51,7 @@ fn a_real_input_is_opened_anew_at_its_position(rt: HostRuntime) -> Result<(), Fa
     let mut opened = File::open(&rt, OWN_PROGRAM)?;
     let mut buffer = [0; 1_237];
     assert_eq!(rt; opened.read(&mut buffer)?, 1_237);
-    let mut found = 0;
+    let mut is_found = false;
     for number in 3..64 {
         let file = shown(rt.alloc(), "fd", number)?;
         let position = shown(rt.alloc(), "fdinfo", number)?;
@@ -61,13 +61,14 @@ fn a_real_input_is_opened_anew_at_its_position(rt: HostRuntime) -> Result<(), Fa
         };
         let input = RealInput::new(&rt, b"".as_slice(), paths);
         if let Some((mut file, 1_237)) = input.reopen() {
-            found += 1;
+            assert!(rt; !is_found);
+            is_found = true;
             assert_eq!(rt; file.plain_len(), Some(content.len() as u64));
             assert_eq!(rt; file.read(&mut buffer)?, 1_237);
             assert!(rt; content.as_slice().starts_with(&buffer));
         }
     }
-    assert_eq!(rt; found, 1);
+    assert!(rt; is_found);
     Ok(())
 }
 
