@@ -61,7 +61,7 @@ impl<'a, L: Named> SpanHasher<InMemory<'a, L>, L> for Plan<'a> {
     fn hash(
         &self,
         span: Span,
-        _room: &mut [u8],
+        _buffer: &mut [u8],
     ) -> Option<Result<OwnDone<L>, Unread<InMemory<'a, L>>>> {
         Some(Ok(self.hash_span::<L>(span)))
     }
