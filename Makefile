@@ -10,8 +10,9 @@
 # `make faults` runs it against full devices, closed streams, broken lists, odd names and files that change.
 # `make refused` refuses each growth of memory in turn.
 # `make soak` runs it for two minutes on random trees and lists, with outputs, memory and descriptors that fail it.
-# `make bench` times it and the installed b3sum, the code on lanes beside the word code, and runs of workers, and writes
-# the tables of README.md and docs/BENCH.md and docs/bench.svg. It ends with 1 where a row is above what is wanted.
+# `make bench` times it and the installed b3sum, the code on lanes beside the word code, runs of workers, and the library
+# beside the original C code where that is installed, and writes the tables of README.md and docs/BENCH.md and
+# docs/bench.svg. It ends with 1 where a row is above what is wanted.
 # `make audit` compares docs/AUDIT.md with the files that it names, and looks for those that it should name.
 # `make cheat EDIT=crates/NAME/must-fail/WRONG.edit` tries one wrong body, which the prover must refuse.
 
@@ -50,7 +51,7 @@ uninstall:
 	rm -f $(DESTDIR)$(PREFIX)/bin/b3sum $(DESTDIR)$(PREFIX)/share/man/man1/b3sum.1
 	rm -f $(addprefix $(DESTDIR)$(PREFIX)/lib/,libb3.a libb3.so libb3.so.0 pkgconfig/b3.pc)
 	rm -f $(DESTDIR)$(PREFIX)/include/b3/blake3.h
-	[ ! -d $(DESTDIR)$(PREFIX)/include/b3 ] || rmdir $(DESTDIR)$(PREFIX)/include/b3
+	[ ! -d $(DESTDIR)$(PREFIX)/include/b3 ] || rmdir --ignore-fail-on-non-empty $(DESTDIR)$(PREFIX)/include/b3
 
 lib: libb3.a libb3.so
 
@@ -101,7 +102,8 @@ refused: b3sum
 soak: b3sum
 	tools/soak
 
-bench: b3sum
+# With the library where a C compiler is there: its rows need one.
+bench: b3sum $(if $(shell command -v $(CC) 2>/dev/null),lib)
 	tools/workers $(FLAGS)
 	tools/bench --write $(FLAGS)
 

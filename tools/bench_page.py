@@ -11,20 +11,31 @@ ROOT = Path(__file__).resolve().parent.parent
 # The works that README shows, of those beside the installed program.
 SHOWN = ("1 GiB, 1 thread", "1 GiB, 4 threads", "256 MiB by a pipe", "256 MiB as standard input",
          "10,000 files of 1 KiB", "200 files of 1 MiB", "a check of 10,000 lines")
-INSTALLED = "installed"
+# What rows stand beside: the installed program and the original C code, each as it is and with AVX-512 hidden from it.
+INSTALLED, ON_AVX2 = "installed", "installed on AVX2"
+ORIGINAL, ORIGINAL_ON_AVX2 = "original", "original on AVX2"
+PEERS = (INSTALLED, ON_AVX2)
+# The beginnings of the names of works that the picture leaves to the table.
+UNUSUAL = ("loaded: ", "cold: ")
 
-LABELS, BARS, BAR, STEP, HEAD = 190, 420, 14, 24, 34
+# The picture, from left to right: names of works, of peers, bars, ratios; and from top to bottom: its head, and a group
+# of bars for each work.
+NAMES, PEER_NAMES, BARS, RATIOS = 205, 70, 400, 50
+HEAD, BAR, STEP, GAP = 44, 11, 13, 9
 STYLE = """
-text { font: 13px system-ui, sans-serif; fill: #57606a }
-.ours { fill: #2f7bd9 } .line { stroke: #8b949e; stroke-width: 1.5 } .wanted { stroke: #d1780a; stroke-width: 2.5 }
-@media (prefers-color-scheme: dark) { text { fill: #9aa4b0 } .ours { fill: #4a93ec } }
+text { font: 13px system-ui, sans-serif; fill: #57606a } .peer, .ratio { font-size: 11px }
+.faster { fill: #2f7bd9 } .slower { fill: #a8b0ba } .line { stroke: #57606a; stroke-width: 1.5 }
+.wanted { stroke: #d1780a; stroke-width: 2.5 }
+@media (prefers-color-scheme: dark) {
+text { fill: #9aa4b0 } .faster { fill: #4a93ec } .slower { fill: #59626d } .line { stroke: #9aa4b0 }
+}
 """
 
 
 @dataclass
 class Row:
-    """A work: its milliseconds by ./b3sum and beside it, by the installed program or by what is named, and the greatest
-    ratio that is wanted."""
+    """A work: its time by ours and by what it stands beside, and the greatest ratio that is wanted. The unit is a
+    millisecond, and for the library a nanosecond."""
     name: str
     beside: str
     mine: float | None
@@ -68,11 +79,36 @@ def machine():
     return f"{os.cpu_count()} processors ({name}) with {memory / (1 << 20):.0f} GiB of memory"
 
 
-def table(rows):
-    """The rows as docs/BENCH.md has them."""
-    lines = ["| Work | beside | ours, ms | that, ms | ratio | wanted |", "|---|---|---|---|---|---|"]
+def ratio_of(row):
+    """The ratio of a row, and whether it is above what is wanted."""
+    return f"**{row.ratio:.2f}, missed**" if row.is_missed else f"{row.ratio:.2f}"
+
+
+def by_work(rows, peers):
+    """The rows beside these peers, those of a work together."""
+    works = {}
     for row in rows:
-        times = f"{row.mine:,.1f} | {row.theirs:,.1f} | {row.ratio:.2f}"
+        if row.beside in peers:
+            works.setdefault(row.name, []).append(row)
+    return works
+
+
+def peers_table(rows):
+    """The works beside the installed program, as it is and on AVX2."""
+    peers = [peer for peer in PEERS if by_work(rows, [peer])]
+    heads = "".join(f" {peer}, ms | ratio | wanted |" for peer in peers)
+    lines = [f"| Work | ours, ms |{heads}", "|---|---|" + "---|---|---|" * len(peers)]
+    for name, beside in by_work(rows, PEERS).items():
+        cells = "".join(f" {row.theirs:,.1f} | {ratio_of(row)} | {row.wanted or ''} |" for row in beside)
+        lines.append(f"| {name} | {beside[0].mine:,.1f} |{cells}")
+    return "\n".join(lines)
+
+
+def table(unit, digits, rows):
+    """Rows that each stand beside something else."""
+    lines = [f"| Work | beside | ours, {unit} | that, {unit} | ratio | wanted |", "|---|---|---|---|---|---|"]
+    for row in rows:
+        times = f"{row.mine:,.{digits}f} | {row.theirs:,.{digits}f} | {ratio_of(row)}"
         lines.append(f"| {row.name} | {row.beside} | {times} | {row.wanted or ''} |")
     return "\n".join(lines)
 
@@ -82,38 +118,57 @@ def memory_table(peaks):
     lines = ["| Greatest memory of a run | ours, KiB | installed, KiB | wanted |", "|---|---|---|---|"]
     for peak in peaks:
         wanted = f"{peak.wanted:,}" if peak.wanted else ""
-        lines.append(f"| {peak.name} | {peak.mine:,} | {peak.theirs:,} | {wanted} |")
+        missed = ", missed" if peak.is_missed else ""
+        lines.append(f"| {peak.name} | {peak.mine:,}{missed} | {peak.theirs:,} | {wanted} |")
     return "\n".join(lines)
 
 
 def short_table(rows):
-    """The rows as README.md has them, all of them beside the installed program."""
-    lines = ["| Work | ours, ms | installed, ms | ratio |", "|---|---|---|---|"]
-    lines += [f"| {row.name} | {row.mine:,.1f} | {row.theirs:,.1f} | {row.ratio:.2f} |" for row in rows]
+    """The works that README.md shows."""
+    lines = ["| Work | ours, ms | ratio to the installed | ratio to it on AVX2 |", "|---|---|---|---|"]
+    for name, beside in by_work(rows, PEERS).items():
+        if name in SHOWN:
+            ratios = {row.beside: f"{row.ratio:.2f}" for row in beside}
+            cells = " | ".join(ratios.get(peer, "not taken") for peer in PEERS)
+            lines.append(f"| {name} | {beside[0].mine:,.1f} | {cells} |")
     return "\n".join(lines)
+
+
+def text(x, y, words, anchor="start", kind="name"):
+    return f'<text class="{kind}" x="{x:.1f}" y="{y}" text-anchor="{anchor}">{escape(words)}</text>'
 
 
 def line(kind, x, top, bottom):
     return f'<line class="{kind}" x1="{x:.1f}" x2="{x:.1f}" y1="{top}" y2="{bottom}"/>'
 
 
+def bar(row, top, left, scale):
+    """A bar with the name of its peer before it, and its ratio to the right of all bars."""
+    length, kind = row.ratio * scale, "faster" if row.ratio <= 1 else "slower"
+    parts = [text(left - 8, top + 9, row.beside.removeprefix(f"{INSTALLED} "), "end", "peer"),
+             f'<rect class="{kind}" x="{left}" y="{top}" width="{length:.1f}" height="{BAR}" rx="2"/>',
+             text(left + BARS + RATIOS - 8, top + 9, f"{row.ratio:.2f}", "end", "ratio")]
+    return parts + [line("wanted", left + row.wanted * scale, top - 1, top + BAR + 1)] if row.wanted else parts
+
+
 def picture(rows):
-    """The ratios as bars: what is left of the line is faster than the installed program."""
-    scale = BARS / max(1.2, *(row.ratio for row in rows))
-    width, height = LABELS + BARS + 60, HEAD + STEP * len(rows) + 8
+    """The ratios as bars, of which those that end left of the line are faster than the installed program."""
+    works = {name: beside for name, beside in by_work(rows, PEERS).items() if not name.startswith(UNUSUAL)}
+    shown = [row for beside in works.values() for row in beside]
+    left, scale = NAMES + PEER_NAMES, BARS / max(1.5, *(max(row.ratio, row.wanted or 0) for row in shown))
+    width, height = left + BARS + RATIOS, HEAD + STEP * len(shown) + GAP * len(works)
     parts = [f'<svg xmlns="http://www.w3.org/2000/svg" viewBox="0 0 {width} {height}" width="{width}" role="img">',
-             "<title>Times of b3sum, in multiples of those of the installed program</title>",
-             f"<style>{STYLE}</style>",
-             f'<text x="{LABELS + scale:.1f}" y="20" text-anchor="middle">1: as long as the installed program</text>']
-    for place, row in enumerate(rows):
-        top = HEAD + STEP * place
-        end = LABELS + row.ratio * scale
-        parts += [f'<text x="{LABELS - 8}" y="{top + 12}" text-anchor="end">{escape(row.name)}</text>',
-                  f'<rect class="ours" x="{LABELS}" y="{top}" width="{row.ratio * scale:.1f}" height="{BAR}" rx="2"/>',
-                  f'<text x="{end + 8:.1f}" y="{top + 12}">{row.ratio:.2f}</text>']
-        if row.wanted:
-            parts.append(line("wanted", LABELS + row.wanted * scale, top - 2, top + BAR + 2))
-    parts += [line("line", LABELS + scale, HEAD - 8, height - 8), "</svg>"]
+             "<title>Times of b3sum, in multiples of those of the installed program, as it is and on AVX2</title>",
+             f"<style>{STYLE}</style>", text(left + scale - 8, 16, "\u25c2 faster", "end"),
+             text(left + scale + 8, 16, "slower \u25b8"), line("wanted", 12, 6, 20), text(20, 16, "wanted at most")]
+    top = HEAD - 10
+    for name, beside in works.items():
+        parts.append(text(NAMES - 8, top + 4 + STEP * len(beside) // 2, name, "end"))
+        for row in beside:
+            parts += bar(row, top, left, scale)
+            top += STEP
+        top += GAP
+    parts += [line("line", left + scale, 6, height - 8), "</svg>"]
     return "\n".join(parts) + "\n"
 
 
@@ -124,14 +179,14 @@ def put(page, text):
     path.write_text(marks.sub(lambda found: f"{found[1]}{text}\n{found[2]}", path.read_text()))
 
 
-def write(rows, load, peaks, version):
+def write(rows, library, load, peaks, version):
     """Writes the picture and the tables. What stands with those of docs/BENCH.md: how many runs wanted a processor
     before the first of ours, and the version of the installed program."""
-    beside = [row for row in rows if row.beside == INSTALLED]
-    (ROOT / "docs/bench.svg").write_text(picture(beside))
+    (ROOT / "docs/bench.svg").write_text(picture(rows))
     head = f"Measured on {machine()}; {load:.1f} other runs wanted a processor in the minute before."
     last = f"The installed program is {version}. The files that it maps are counted as its memory."
-    told = "\n".join([head, "", table(rows), "", "![The ratios](bench.svg)", "", memory_table(peaks), "", last])
-    put("docs/BENCH.md", told)
-    shown = short_table([row for row in beside if row.name in SHOWN])
-    put("README.md", f"{shown}\n\n![The ratios beside the installed program](docs/bench.svg)")
+    parts = [head, peers_table(rows), "![The ratios](bench.svg)"]
+    parts.append(table("ms", 1, [row for row in rows if row.beside not in PEERS]))
+    parts += [table("ns", 0, library)] if library else []
+    put("docs/BENCH.md", "\n\n".join([*parts, memory_table(peaks), last]))
+    put("README.md", f"{short_table(rows)}\n\n![The ratios beside the installed program](docs/bench.svg)")

@@ -1,0 +1,107 @@
+"""What tools/bench times ./b3sum and libb3.so beside: the installed b3sum and the original C code, each as it is and
+with AVX-512 hidden from it. What this machine lacks is left out, and named."""
+
+import os
+import shutil
+import subprocess
+import sys
+from dataclasses import dataclass
+from pathlib import Path
+
+from bench_page import INSTALLED, ON_AVX2, ORIGINAL, ORIGINAL_ON_AVX2, Row
+from original import original_code, original_parts
+
+TOOLS = Path(__file__).resolve().parent
+# What hashing so many bytes by the library takes at most beside the original on AVX2.
+LENGTHS = {"library: 64 bytes": (64, 1.3), "library: 1 KiB": (1 << 10, 1.3), "library: 16 KiB": (1 << 14, 1.0),
+           "library: 1 MiB": (1 << 20, 1.0)}
+# Starts of the timing program, each with many turns: the machine is at times slow for longer than a start takes.
+STARTS = 10
+
+
+@dataclass
+class Program:
+    """A program, and the library that is loaded before the C library in its runs."""
+    path: str
+    preloaded: str | None = None
+
+    @property
+    def environment(self):
+        return {**os.environ, "LD_PRELOAD": self.preloaded} if self.preloaded else None
+
+
+def left_out(what):
+    print(f"bench: left out: {what}", file=sys.stderr)
+
+
+def is_built(*words):
+    """Whether the C compiler makes something of these words."""
+    return subprocess.run(["cc", *words], stdin=subprocess.DEVNULL).returncode == 0
+
+
+def hiding_library(folder):
+    """The library that hides AVX-512 from a program, built in a folder; or None, once it is said why there is none."""
+    library = f"{folder}/hide_avx512.so"
+    if "avx512f" not in Path("/proc/cpuinfo").read_text().split():
+        left_out("peers on AVX2: the processor has no AVX-512, so the others are on AVX2")
+    elif not shutil.which("cc"):
+        left_out("peers on AVX2: no C compiler is installed")
+    elif not is_built("-shared", "-fPIC", "-O2", "-o", library, TOOLS / "hide_avx512.c"):
+        left_out("peers on AVX2: hide_avx512.c is not compiled")
+    elif subprocess.run(["true"], env=Program("true", library).environment).returncode:
+        left_out("peers on AVX2: CPUID does not fault on this machine")
+    else:
+        return library
+
+
+def peers_of(path, hiding):
+    """The installed program, as it is and, where AVX-512 can be hidden, on AVX2."""
+    peers = {INSTALLED: Program(path)}
+    return {**peers, ON_AVX2: Program(path, hiding)} if hiding else peers
+
+
+def speed_words(folder):
+    """The command that times the library beside the original C code, built in a folder; or None, once it is said why
+    there is none."""
+    ours, code = TOOLS.parent / "libb3.so", original_code()
+    program, theirs = f"{folder}/speed", f"{folder}/original.so"
+    if not shutil.which("cc"):
+        left_out("the library: no C compiler is installed")
+    elif not ours.exists():
+        left_out("the library: libb3.so is not built (make lib)")
+    elif code is None:
+        left_out("the library: the original C code is not installed (Debian: librust-blake3-dev)")
+    elif not (is_built("-shared", "-fPIC", "-O3", "-o", theirs, *original_parts(code))
+              and is_built("-O2", f"-I{TOOLS.parent / 'include'}", TOOLS / "library/speed.c", "-ldl", "-o", program)):
+        left_out("the library: the original C code or speed.c is not compiled")
+    else:
+        return [program, ours, theirs]
+
+
+def least_times(words, programs):
+    """By a peer's name and a length, the least times of all starts in nanoseconds, ours and the peer's; none of a peer
+    whose start failed. The peers take turns."""
+    least = {}
+    for _ in range(STARTS):
+        for name, program in programs.items():
+            run = subprocess.run(words, env=program.environment, stdout=subprocess.PIPE, text=True)
+            for length, *times in map(str.split, run.stdout.splitlines() if run.returncode == 0 else []):
+                before = least.get((name, int(length)), (float("inf"),) * 2)
+                least[name, int(length)] = tuple(min(pair) for pair in zip(before, map(float, times)))
+    return least
+
+
+def library_rows(folder, hiding, only):
+    """The rows of the library, in nanoseconds, whose names have a word; none where it or what it stands beside is not
+    there."""
+    lengths = {name: row for name, row in LENGTHS.items() if only in name}
+    words = speed_words(folder) if lengths else None
+    if words is None:
+        return []
+    print(f"{'work':30} {'beside':20} {'ours, ns':>10} {'that, ns':>10} {'ratio':>7} {'wanted':>7}")
+    programs = {ORIGINAL: Program(words[0])}
+    if hiding:
+        programs[ORIGINAL_ON_AVX2] = Program(words[0], hiding)
+    least = least_times(words, programs)
+    return [Row(name, peer, *least.get((peer, length), (None, None)), wanted if peer == ORIGINAL_ON_AVX2 else None)
+            for name, (length, wanted) in lengths.items() for peer in programs]

@@ -1,0 +1,96 @@
+/*
+ * Times two libraries with the calls of blake3.h, which are loaded beside one another and take turns: speed OURS THEIRS.
+ * Of each length it writes a line: the length, and for each library the least time, in nanoseconds, in which an input of
+ * so many bytes becomes a digest. It ends with 1 where the digests differ.
+ */
+#define _DEFAULT_SOURCE
+#include <blake3.h>
+
+#include <dlfcn.h>
+#include <stdio.h>
+#include <stdlib.h>
+#include <time.h>
+
+/* A turn hashes one input, or as many as make its bytes. */
+enum { LIBRARIES = 2, TURNS = 300, LONGEST = 1 << 20, TURN_LEN = 1 << 18 };
+
+static const size_t LENGTHS[] = {64, 1 << 10, 1 << 14, LONGEST};
+
+struct library {
+    void (*init)(blake3_hasher *self);
+    void (*update)(blake3_hasher *self, const void *input, size_t input_len);
+    void (*finalize)(const blake3_hasher *self, uint8_t *out, size_t out_len);
+};
+
+static uint8_t input[LONGEST];
+
+static void *symbol(void *handle, const char *name) {
+    void *found = handle == NULL ? NULL : dlsym(handle, name);
+    if (found == NULL) {
+        fprintf(stderr, "speed: %s\n", dlerror());
+        exit(2);
+    }
+    return found;
+}
+
+static struct library load(const char *path) {
+    struct library loaded;
+    void *handle = dlopen(path, RTLD_NOW | RTLD_LOCAL);
+    *(void **)&loaded.init = symbol(handle, "blake3_hasher_init");
+    *(void **)&loaded.update = symbol(handle, "blake3_hasher_update");
+    *(void **)&loaded.finalize = symbol(handle, "blake3_hasher_finalize");
+    return loaded;
+}
+
+static double now(void) {
+    struct timespec time;
+    clock_gettime(CLOCK_MONOTONIC, &time);
+    return (double)time.tv_sec * 1e9 + (double)time.tv_nsec;
+}
+
+/* The nanoseconds of one input in a turn, whose last digest is written. */
+static double turn(const struct library *library, size_t len, uint8_t digest[BLAKE3_OUT_LEN]) {
+    size_t times = len < TURN_LEN ? TURN_LEN / len : 1;
+    double start = now();
+    for (size_t i = 0; i < times; i++) {
+        blake3_hasher hasher;
+        library->init(&hasher);
+        library->update(&hasher, input, len);
+        library->finalize(&hasher, digest, BLAKE3_OUT_LEN);
+    }
+    return (now() - start) / (double)times;
+}
+
+static void time_length(const struct library libraries[LIBRARIES], size_t len) {
+    double best[LIBRARIES];
+    for (int round = 0; round < TURNS; round++) {
+        uint8_t digests[LIBRARIES][BLAKE3_OUT_LEN];
+        for (int i = 0; i < LIBRARIES; i++) {
+            double took = turn(&libraries[i], len, digests[i]);
+            best[i] = round == 0 || took < best[i] ? took : best[i];
+        }
+        if (memcmp(digests[0], digests[1], BLAKE3_OUT_LEN) != 0) {
+            fprintf(stderr, "speed: the digests of %zu bytes differ\n", len);
+            exit(1);
+        }
+    }
+    printf("%zu %.1f %.1f\n", len, best[0], best[1]);
+}
+
+int main(int count, char **words) {
+    struct library libraries[LIBRARIES];
+    if (count != 1 + LIBRARIES) {
+        fprintf(stderr, "usage: speed OURS THEIRS\n");
+        return 2;
+    }
+    for (int i = 0; i < LIBRARIES; i++) {
+        libraries[i] = load(words[1 + i]);
+    }
+    for (size_t i = 0; i < LONGEST; i++) {
+        input[i] = (uint8_t)(i % 251);
+    }
+    for (size_t i = 0; i < sizeof LENGTHS / sizeof *LENGTHS; i++) {
+        time_length(libraries, LENGTHS[i]);
+    }
+    return 0;
+}
