@@ -91,7 +91,7 @@ def holed(name):
 
 def cited(text, known, bound=frozenset()):
     """What the words of a text stand for, in their order, by what is known of the file."""
-    text = re.sub(r"(?<=[{;])\s*\S+ = ", " ", text)
+    text = re.sub(r"(?<=[{;])\s*\S+ = ", " ", re.sub(r'"[^"\n]*"', " ", text))
     heads = [token.split(".")[0] for token in TOKEN.findall(text)]
     first = {}
     for place, head in enumerate(heads):
@@ -128,6 +128,8 @@ class SpecFile:
             head = HEAD.match(code)
             if head and not re.match(r"(pub )?(use|mod) ", code):
                 self.texts[head[2]] = paragraph.strip("\n")
+        if len(self.texts) != len(re.findall(r"^(?:abbrev|unfoldable|pub (?:record|data)) ", text, re.MULTILINE)):
+            raise NotFound(f"{self.path}: two definitions without an empty line between them")
         self.constructors = {name: owner for owner, text in self.texts.items() for name in constructors_of(text)}
 
     def known(self):
@@ -363,9 +365,10 @@ class Contract:
         return Item(word, self.source.path, "\n".join(ensured), list(dict.fromkeys(words)), head)
 
     def calls(self, name):
-        """Whether the body names a call."""
-        call = name.rpartition("::")[2]
-        return re.search(rf"(?<![\w]){re.escape(call)}(?:::<[^>]*>)?\(", "\n".join(self.body)) is not None
+        """Whether the body has a call of this name: of a method by its type, or of a value."""
+        kind, _, call = name.rpartition("::")
+        before = rf"(?:\b{kind}::|\.)" if kind else r"(?<![\w.])"
+        return re.search(rf"{before}{call}(?:::<[^>]*>)?\(", without_comments("\n".join(self.body))) is not None
 
 
 def reached(name, types, seen=()):

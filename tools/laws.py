@@ -19,8 +19,9 @@ TO_TAGGED = (*TO_TEXT, ("b3_check/src/message.rt", "tagged_line"), ("b3_lines/sr
 # The traits at which the proof ends: what their calls promise is assumed of a disk, and so is to be read.
 ASSUMED = ("Disk", "DiskFile", "Input", "Stream")
 
-# What code holds that can reach the system, but for threads and memory.
-HANDLES = r"\bHostRuntime\b|\buse std::(?:fs|os|net|rt|process::[a-z])|\buse std::io::(?:\{[^}]*\b)?(?:Read|Write|Seek)\b"
+# What names a handle of the system, but for threads and memory.
+HANDLES = (r"\bHostRuntime\b|\buse std::(?:fs|os|net|rt|process::[a-z])"
+           r"|\buse std::io::(?:\{[^}]*\b)?(?:Read|Write|Seek)\b")
 
 # Types of which a law reads no more than the fields that clauses of their calls name.
 OPAQUE = ("FileShelf", "OutputSink")
@@ -63,10 +64,12 @@ class Law:
 
 LAWS = (
     Law("Sums are never wrong",
-        "Whatever fails, of each name its right line is written, or a complaint and no line; at a fault a beginning.",
+        "Whatever fails, each name has the line of its content's digest, or a complaint in its place; at a fault there "
+        "is a beginning of that.",
         (Clauses("b3_check/src/sum.rt", "run_sum", ("right",)),), (TO_SUM,)),
     Law("Checks are never wrong",
-        "Whatever fails, a verdict is on a line of a list, and OK only where the line's digest is the content's.",
+        "Whatever fails, each line has its right verdict, OK only where its digest is the content's, or is refused; "
+        "at a fault there is a beginning of that.",
         (Clauses("b3_check/src/check.rt", "run_check", ("right",)),), (TO_CHECK,)),
     Law("Which contents these are",
         "The program's shelf tells what its disk and its input tell, and its outputs tell what their writers hold.",

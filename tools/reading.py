@@ -41,7 +41,7 @@ def root_items(root):
         return [source.contract(root.function).item(root.names)]
     if isinstance(root, Ghosts):
         return [source.block(root.block, root.names)]
-    return [call.item() for call in source.public(root.kind) if call.clauses]
+    return [call.item() for call in source.public(root.kind) if any(kind == "ensures" for kind, _, _ in call.clauses)]
 
 
 def reading_of(law, whole, seen):
