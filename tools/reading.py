@@ -33,6 +33,14 @@ class Reading:
     def files(self):
         return {it.file for it in self.roots + self.items}
 
+    def new_lines(self):
+        return sum(it.lines() for it in self.fresh)
+
+    def minutes(self):
+        """How long the clauses and what no law before it had take to read."""
+        lines = self.new_lines() + sum(it.lines() for it in self.roots)
+        return -(-lines * SECONDS_A_LINE // 60)
+
 
 def root_items(root):
     """What is read of a root."""
@@ -96,6 +104,7 @@ def together(read):
     every = Reading()
     for _, reading in read:
         every.items += reading.fresh
+        every.fresh += reading.fresh
         every.roots += reading.roots
         every.kit |= reading.kit
     return every
@@ -107,10 +116,6 @@ def by_file(items):
     for item in items:
         found.setdefault(item.file, []).append(item)
     return found
-
-
-def minutes(lines):
-    return -(-lines * SECONDS_A_LINE // 60)
 
 
 def many(count, name):
