@@ -253,7 +253,8 @@ class SourceFile:
         for begin in self.impls(f"Model for {word.name}"):
             body += ghosts_alone(self.lines[begin:self.block_end(begin) + 1])
         text = "\n".join(self.above(line) + body)
-        return Item(word, self.path, text, [it for it in cited_by_code(text, self) if it != word])
+        variants = set(re.findall(r"^    ([A-Z]\w*)", text, re.MULTILINE))
+        return Item(word, self.path, text, [it for it in cited_by_code(text, self, variants) if it != word])
 
     def block(self, name, members):
         """These ghost members of an `impl`, which is named as `Trait for Type`."""
@@ -297,9 +298,9 @@ def ghosts_alone(lines, members=()):
     return kept + [lines[-1]]
 
 
-def cited_by_code(text, source):
+def cited_by_code(text, source, bound=frozenset()):
     """What a declaration cites: types in its code, and words in its ghost members and clauses."""
-    return cited(re.sub(r"::", ".", without_comments(text)).replace("<", " ").replace(">", " "), source.known)
+    return cited(re.sub(r"::", ".", without_comments(text)).replace("<", " ").replace(">", " "), source.known, bound)
 
 
 class Contract:
