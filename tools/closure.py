@@ -244,14 +244,16 @@ class SourceFile:
                     yield Contract(self, f"{kind}::{call[1]}" if kind else call[1], line)
 
     def item(self, word, is_whole):
-        """The declaration of a type; of a trait the ghost members, and where that is wanted what its calls promise."""
+        """The declaration of a type; of one that contracts see as another value, that value; of a trait the ghost
+        members, and where that is wanted what its calls promise."""
         found = re.search(DECLARED.format(word.name), self.text, re.MULTILINE)
         line = self.text[:found.start()].count("\n")
         body = self.lines[line:self.block_end(line) + 1]
         if found[1] == "trait":
             body = without_bodies(body) if is_whole else ghosts_alone(body)
         for begin in self.impls(f"Model for {word.name}"):
-            body += ghosts_alone(self.lines[begin:self.block_end(begin) + 1])
+            seen_as = ghosts_alone(self.lines[begin:self.block_end(begin) + 1], ("Value",))
+            body = [body[0].removesuffix("{") + "{ .. }", *seen_as]
         text = "\n".join(self.above(line) + body)
         variants = set(re.findall(r"^    ([A-Z]\w*)", text, re.MULTILINE))
         return Item(word, self.path, text, [it for it in cited_by_code(text, self, variants) if it != word])
