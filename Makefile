@@ -13,7 +13,8 @@
 # `make bench` times it and the installed b3sum, the code on lanes beside the word code, runs of workers, and the library
 # beside the original C code where that is installed, and writes the tables of README.md and docs/BENCH.md and
 # docs/bench.svg. It ends with 1 where a row is above what is wanted.
-# `make audit` compares docs/AUDIT.md with the files that it names, and looks for those that it should name.
+# `make audit` compares docs/AUDIT.md with the files that it names, and with what the laws and the contracts cite.
+# `make statements` prints the laws and all that they cite, as one text in reading order.
 # `make cheat EDIT=crates/NAME/must-fail/WRONG.edit` tries one wrong body, which the prover must refuse.
 
 PREFIX = /usr/local
@@ -34,7 +35,8 @@ SOURCES := crates.txt $(shell find crates/*/ -mindepth 1 \( -name out -o -name m
 LIBRARY_SOURCES := crates.txt $(shell find $(addprefix crates/,b3_core b3_hash b3_c) -mindepth 1 \
     \( -name out -o -name must-fail \) -prune -o -print)
 
-.PHONY: all install uninstall lib install-lib lib-test check test compare faults refused soak bench audit cheat clean force
+.PHONY: all install uninstall lib install-lib lib-test check test compare faults refused soak bench audit statements \
+    cheat clean force
 
 all: b3sum
 
@@ -109,6 +111,9 @@ bench: b3sum $(if $(shell command -v $(CC) 2>/dev/null),lib)
 
 audit:
 	tools/audit
+
+statements:
+	@tools/statements
 
 cheat:
 	tools/cheat $(word 2,$(subst /, ,$(EDIT))) $(EDIT)

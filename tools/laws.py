@@ -1,0 +1,117 @@
+"""The laws of the program, each with its clauses and the calls from `main` to them, and the claims of its libraries."""
+
+from dataclasses import dataclass
+
+# From `main` down, each function calls the next.
+TO_CALL = (("b3sum/src/main.rt", "main"), ("b3sum/src/call.rt", "call_with"))
+TO_SHELF = (*TO_CALL, ("b3_program/src/files.rt", "FileShelf::new"))
+TO_OUTPUT = (*TO_CALL, ("b3_program/src/outputs.rt", "OutputSink::new"))
+TO_RUN = (*TO_CALL, ("b3sum/src/call.rt", "run_call"), ("b3_program/src/run.rt", "run_words"),
+          ("b3_program/src/run.rt", "run_task"), ("b3_program/src/run.rt", "run_engine"))
+TO_SUM = (*TO_RUN, ("b3_check/src/sum.rt", "run_sum"))
+TO_CHECK = (*TO_RUN, ("b3_check/src/check.rt", "run_check"))
+TO_TEXT = (*TO_SUM, ("b3_check/src/sum.rt", "sum_names"), ("b3_check/src/engine.rt", "Engine::run"),
+           ("b3_check/src/engine.rt", "Engine::message_of"), ("b3_check/src/items.rt", "Subject::message"),
+           ("b3_check/src/message.rt", "Message::of_name"), ("b3_check/src/message.rt", "digest_text"))
+TO_PLAIN = (*TO_TEXT, ("b3_check/src/message.rt", "plain_line"), ("b3_lines/src/writing.rt", "write_line"))
+TO_TAGGED = (*TO_TEXT, ("b3_check/src/message.rt", "tagged_line"), ("b3_lines/src/tagging.rt", "write_tagged"))
+
+# The traits at which the proof ends: what their calls promise is assumed of a disk, and so is to be read.
+ASSUMED = ("Disk", "DiskFile", "Input", "Stream")
+
+# What names a handle of the system, but for threads and memory.
+HANDLES = (r"\bHostRuntime\b|\buse std::(?:fs|os|net|rt|process::[a-z])"
+           r"|\buse std::io::(?:\{[^}]*\b)?(?:Read|Write|Seek)\b")
+
+# Types of which a law reads no more than the fields that clauses of their calls name.
+OPAQUE = ("FileShelf", "OutputSink")
+
+# The traits that who calls a library implements.
+OWED = ("Gate", "Named", "Source")
+
+
+@dataclass(frozen=True)
+class Clauses:
+    """Clauses of a call, by their names; all of them where none is named."""
+    file: str
+    function: str
+    names: tuple = ()
+
+
+@dataclass(frozen=True)
+class Ghosts:
+    """Ghost members of an `impl`, by their names: what a type tells."""
+    file: str
+    block: str
+    names: tuple
+
+
+@dataclass(frozen=True)
+class Public:
+    """The contracts of all public calls of a file, or of a type in it."""
+    file: str
+    kind: str = ""
+
+
+@dataclass(frozen=True)
+class Law:
+    """A law in a user's words, what states it, and the calls from `main` down to that."""
+    title: str
+    says: str
+    roots: tuple
+    chains: tuple = ()
+
+
+LAWS = (
+    Law("Sums are never wrong",
+        "Whatever fails, each name has the line of its content's digest, or a complaint in its place; at a fault there "
+        "is a beginning of that.",
+        (Clauses("b3_check/src/sum.rt", "run_sum", ("right",)),), (TO_SUM,)),
+    Law("Checks are never wrong",
+        "Whatever fails, each line has its right verdict, OK only where its digest is the content's, or is refused; "
+        "at a fault there is a beginning of that.",
+        (Clauses("b3_check/src/check.rt", "run_check", ("right",)),), (TO_CHECK,)),
+    Law("Which contents these are",
+        "The program's shelf tells what its disk and its input tell, and its outputs tell what their writers hold.",
+        (Ghosts("b3_program/src/files.rt", "Shelf for FileShelf", ("told", "is_sure")),
+         Clauses("b3_program/src/files.rt", "FileShelf::new", ("disk", "input")),
+         Ghosts("b3_program/src/outputs.rt", "Sink for OutputSink", ("held",)),
+         Clauses("b3_program/src/outputs.rt", "OutputSink::new", ("writer",)),
+         Clauses("b3_program/src/outputs.rt", "OutputSink::into_writer")), (TO_SHELF, TO_OUTPUT)),
+    Law("Sums",
+        "Over files that are known and do not fail, the line of each is written in order, and no more.",
+        (Clauses("b3_check/src/sum.rt", "run_sum", ("sums",)),), (TO_SUM,)),
+    Law("Checks",
+        "Over such files OK, FAILED or FAILED (cannot read) is written for each line, with counts and warning.",
+        (Clauses("b3_check/src/check.rt", "run_check", ("checks",)),), (TO_CHECK,)),
+    Law("Sums, then a check",
+        "What sums wrote, given back as a list over the same files, is OK for each.",
+        (Clauses("b3_check/src/check.rt", "run_check", ("sums_check",)),), (TO_CHECK,)),
+    Law("One line",
+        "What is written of a file is one line: no line feed stands in it but the last byte.",
+        (Clauses("b3_lines/src/writing.rt", "write_line", ("one_line",)),
+         Clauses("b3_lines/src/tagging.rt", "write_tagged", ("one_line",))), (TO_PLAIN, TO_TAGGED)),
+    Law("What a line says",
+        "What a line reads as is what a check takes of it.",
+        (Clauses("b3_check/src/check.rt", "run_check", ("entries",)),), (TO_CHECK,)),
+)
+
+CONTRACT = Law("The program's contract",
+               "From the arguments to both outputs and the status, over a disk and an input that may tell.",
+               (Clauses("b3sum/src/call.rt", "call_with"), Clauses("b3sum/src/call.rt", "run_call")),
+               ((*TO_CALL, ("b3sum/src/call.rt", "run_call")),))
+
+LIBRARIES = (
+    Law("The hasher", "Any cutting of an input into pieces has the one output, from any place on.",
+        (Public("b3_core/src/tree.rt"), Public("b3_core/src/nodes.rt", "Node"), Public("b3_core/src/modes.rt", "Mode"),
+         Public("b3_hash/src/derivation.rt"), Public("b3_hash/src/hasher.rt", "Hasher"),
+         Public("b3_hash/src/output.rt", "Xof"))),
+    Law("The C library", "What each call does to a hasher and writes.", (Public("b3_c/src/lib.rt"),)),
+    Law("The board", "It keeps its laws, and its root is that of its input.",
+        (Public("b3_board/src/plan.rt", "Plan"), Public("b3_board/src/board.rt", "Board"))),
+    Law("Workers", "Each span is claimed once, and the root is that of the input, over every schedule.",
+        (Public("b3_board/src/claims.rt"), Public("b3_board/src/workers.rt"), Public("b3_board/src/parallel.rt"),
+         Public("b3_board/src/from_source.rt"))),
+    Law("Check lines", "What is written reads back, and each line reads in one way.",
+        (Public("b3_lines/src/writing.rt"), Public("b3_lines/src/tagging.rt"), Public("b3_lines/src/reading.rt"))),
+)

@@ -1,0 +1,158 @@
+"""What has to be read for each law: its clauses, all that they cite, and how much that is."""
+
+import re
+import shutil
+from dataclasses import dataclass, field
+from functools import cache
+from pathlib import Path
+
+from closure import NotFound, closure, source_file
+from laws import ASSUMED, CONTRACT, LAWS, LIBRARIES, OPAQUE, OWED, Clauses, Ghosts
+
+SECONDS_A_LINE = 8
+
+# The libraries whose pages `std` passes on.
+PASSED_ON = ("core", "std_alloc", "std_heap", "std_io")
+
+
+@dataclass
+class Reading:
+    """What a law stands on: what states it, all items, those that no law before it had, and words of the kit."""
+    roots: list = field(default_factory=list)
+    items: list = field(default_factory=list)
+    fresh: list = field(default_factory=list)
+    kit: set = field(default_factory=set)
+    faults: list = field(default_factory=list)
+
+    def definitions(self):
+        return [it for it in self.items if it.word.kind == "definition"]
+
+    def lines(self):
+        return sum(it.lines() for it in self.items)
+
+    def files(self):
+        return {it.file for it in self.roots + self.items}
+
+    def new_lines(self):
+        return sum(it.lines() for it in self.fresh)
+
+    def minutes(self):
+        """How long the clauses and what no law before it had take to read."""
+        lines = self.new_lines() + sum(it.lines() for it in self.roots)
+        return -(-lines * SECONDS_A_LINE // 60)
+
+
+def root_items(root):
+    """What is read of a root."""
+    source = source_file(f"crates/{root.file}")
+    if isinstance(root, Clauses):
+        return [source.contract(root.function).item(root.names)]
+    if isinstance(root, Ghosts):
+        return [source.block(root.block, root.names)]
+    return [call.item() for call in source.public(root.kind) if any(kind == "ensures" for kind, _, _ in call.clauses)]
+
+
+def reading_of(law, whole, seen):
+    """The reading of a law, after those whose words are given."""
+    reading = Reading()
+    for root in law.roots:
+        try:
+            reading.roots += root_items(root)
+        except NotFound as fault:
+            reading.faults.append(str(fault))
+    reading.items, reading.kit = closure(reading.roots, whole, OPAQUE)
+    reading.fresh = [it for it in reading.items if it.word not in seen]
+    reading.faults += [fault for chain in law.chains for fault in faults_of_chain(chain)]
+    return reading
+
+
+def readings(laws, whole):
+    """Each law with its reading, in their order."""
+    seen, found = set(), []
+    for law in laws:
+        reading = reading_of(law, whole, seen)
+        seen |= {it.word for it in reading.items}
+        found.append((law, reading))
+    return found
+
+
+@cache
+def of_program():
+    """The readings of the laws, and after them that of the program's contract."""
+    return readings((*LAWS, CONTRACT), ASSUMED)
+
+
+@cache
+def of_libraries():
+    return readings(LIBRARIES, OWED)
+
+
+def faults_of_chain(chain):
+    """Which functions of a chain are missing, or do not call the next."""
+    for (file, function), following in zip(chain, [*chain[1:], None]):
+        try:
+            contract = source_file(f"crates/{file}").contract(function)
+        except NotFound as fault:
+            yield str(fault)
+            continue
+        if following and not contract.calls(following[1]):
+            yield f"crates/{file}: `{function}` does not call `{following[1]}`"
+
+
+def together(read):
+    """The readings of several laws as one."""
+    every = Reading()
+    for _, reading in read:
+        every.items += reading.fresh
+        every.fresh += reading.fresh
+        every.roots += reading.roots
+        every.kit |= reading.kit
+    return every
+
+
+def by_file(items):
+    """The items of each file, files in the order in which they are first read."""
+    found = {}
+    for item in items:
+        found.setdefault(item.file, []).append(item)
+    return found
+
+
+def many(count, name):
+    return f"{count} {name}" + ("" if count == 1 else "s")
+
+
+def kit_folder():
+    """The folder of the kit's libraries, where the toolchain is there."""
+    command = shutil.which("rt")
+    return Path(command).resolve().parents[1] / "rattle" if command else None
+
+
+def page_file(path, folder):
+    """The page of the kit that has the words of a path, where one has them."""
+    first, *rest = path.split(".")
+    if first == "Rattle" and len(rest) > 2:
+        places = [Path(library, *rest[1:]) for library in (rest[0], *PASSED_ON)]
+    else:
+        below = {"lib": "logic/Lib", "mir": "logic/Mir", "mathlib": "antt/port/mathlib/src"}
+        places = [Path(below[first], *rest)] if first in below else []
+    found = [place.with_suffix(".antt") for place in places]
+    return next((page for page in found if (folder / page).is_file()), None)
+
+
+def type_of(path):
+    """The module of a type of the kit, as code names it."""
+    return re.sub(r"^Rattle\.(\w+)\.specs\.declared\.", r"\1.", path).removesuffix(".TheVariants").replace(".", "::")
+
+
+@cache
+def page_of(path, name):
+    """The page of the kit that defines a word, by the path that it is imported from; of a type its module."""
+    folder = kit_folder()
+    page = page_file(path, folder) if folder else None
+    if page is None:
+        return type_of(path) if ".declared." in path else path
+    for further, names in re.findall(r"^pub use ([\w.]+)\.\{([^}]*)\}", (folder / page).read_text(), re.MULTILINE):
+        if name in [it.strip() for it in names.split(",")]:
+            return page_of(further, name)
+    return str(page)
