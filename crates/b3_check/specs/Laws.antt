@@ -50,12 +50,12 @@ pub record Texts : Type 0 where
 
 -- they are right: the line of the digest of the name's content, or no line and a complaint
 pub data IsRight (contents : Contents) (options : SumOptions) (name : List ℕ) : Texts → Type 0 where
-  line : {mode : Mode} {content : List ℕ} → IsModeOf contents options.key mode → contents name ≡ Some content
+  line : (mode : Mode) (content : List ℕ) → IsModeOf contents options.key mode → contents name ≡ Some content
       → IsRight contents options name (record {
         out = digest_text options.form (blake3 mode content options.seek options.length) name;
         err = [];
       })
-  complains : {why : List ℕ} → IsRight contents options name (record { out = []; err = complaint name why })
+  complains : (why : List ℕ) → IsRight contents options name (record { out = []; err = complaint name why })
 
 -- two outputs gained these texts, name for name: of all names where the run went to its end, else of the first ones,
 -- and a beginning
