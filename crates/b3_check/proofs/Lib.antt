@@ -18,3 +18,5 @@ pub mod CheckLemmas
 mod PrefetchLemmas
 -- Parts of a content that is read at offsets: what the next region adds to those before it.
 pub mod PartLemmas
+-- What sums and checks of known files say: their reports, and that the lines of files read back.
+pub mod LawLemmas

@@ -16,3 +16,4 @@ pub mod MemoryShelves
 pub mod MemorySinks
 pub mod Prefetch
 pub mod Parts
+pub mod Laws

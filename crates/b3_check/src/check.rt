@@ -1,13 +1,20 @@
 //! The run that checks lists of check lines.
 
-ghost use Rattle.std.specs.Prelude.{◌≡◌, ◌+◌, ◌*◌, ◌-◌, ◌^◌, ◌<◌, ◌≤◌, Ok, map, string_bytes, length, vec_len, IfOk, IfErr, if◌then◌else◌};
-ghost use Rattle.b3_check.specs.Checks.{check_script, lines_script, list_script, lists_script};
+ghost use Rattle.std.specs.Prelude.{◌≡◌, ◌+◌, ◌*◌, ◌-◌, ◌^◌, ◌<◌, ◌≤◌, ℕ, List, [], ◌∷◌, All, Ok, Some, true, map, string_bytes, length, vec_len, IfOk, IfErr, if◌then◌else◌};
+ghost use Rattle.std.specs.List.{AllZip};
+ghost use Rattle.b3_lines.specs.Lines.{lines_of};
+ghost use Rattle.b3_lines.specs.Reading.{IsReadAs};
+ghost use Rattle.b3_check.specs.Checks.{Entry, check_script, entry_of, lines_script, list_script, lists_script};
+ghost use Rattle.b3_check.specs.Contents.{Contents};
 ghost use Rattle.b3_check.specs.Digests.{line_range};
 ghost use Rattle.b3_check.specs.Faults.{is_write_fault};
+ghost use Rattle.b3_check.specs.Laws.{AsksAll, File, IsThere, Knows, Says, Wrote, oks_of, sums_of, verdicts_on};
 ghost use Rattle.b3_check.specs.Options.{CanCheck, check_limits};
 ghost use Rattle.b3_check.specs.Devices.{loans, scene_of};
 ghost use Rattle.b3_check.specs.Runs.{HasRoom, Ran, RanSurely, Runs, Stopped, scene};
+ghost use Rattle.b3_check.specs.Sums.{shows_name};
 ghost use Rattle.b3_check.specs.Tallies.{counted};
+ghost use Rattle.b3_check.specs.declared.options.Form.{Form};
 
 use crate::devices::Devices;
 use crate::engine::Engine;
@@ -71,6 +78,26 @@ pub fn run_check<
     ensures sure { IfOk result (λ tally. RanSurely (check_script options.now (map string_bytes lists.now))
         (scene S.Shelf O.Sink E.Sink shelf.old out.old err.old)
         (scene S.Shelf O.Sink E.Sink shelf.new out.new err.new) tally) }
+
+    // Of a list that is known it writes the verdict on each line, where each says something, in order.
+    ensures checks { (contents : Contents) (list text : List ℕ) (entries : List Entry)
+        → Knows (S.told shelf.old) (S.is_sure shelf.old) contents
+        → AsksAll options.now → map string_bytes lists.now ≡ list ∷ []
+        → contents list ≡ Some text → AllZip Says (lines_of text) entries
+        → IfOk result (λ tally. Wrote (verdicts_on contents entries)
+        (O.held out.old) (O.held out.new) (E.held err.old) (E.held err.new) tally) }
+
+    // Of a list that a sum wrote of files that are there it writes that each is ok, in order.
+    ensures sums_check { (contents : Contents) (form : Form) (list : List ℕ) (files : List File)
+        → Knows (S.told shelf.old) (S.is_sure shelf.old) contents
+        → AsksAll options.now → map string_bytes lists.now ≡ list ∷ []
+        → shows_name form ≡ true → contents list ≡ Some (sums_of form files).out → All (IsThere contents) files
+        → IfOk result (λ tally. Wrote (oks_of files)
+        (O.held out.old) (O.held out.new) (E.held err.old) (E.held err.new) tally) }
+
+    // What a line says is what is taken of it.
+    ensures entries { (line digest name shown : List ℕ) → IsReadAs line digest name shown
+        → entry_of line ≡ record { digest = digest; name = name; shown = shown } }
 
     // At a fault both sinks gained beginnings of the texts so far, and the fault has its cause.
     ensures fault { IfErr result (λ fault.

@@ -1,7 +1,9 @@
 //! The run that writes the digest of each name.
 
-ghost use Rattle.std.specs.Prelude.{◌≡◌, ◌+◌, ◌-◌, ◌^◌, ◌<◌, ◌≤◌, map, string_bytes, length, IfOk, IfErr, if◌then◌else◌};
+ghost use Rattle.std.specs.Prelude.{◌≡◌, ◌+◌, ◌-◌, ◌^◌, ◌<◌, ◌≤◌, map, string_bytes, length, List, All, IfOk, IfErr, if◌then◌else◌};
+ghost use Rattle.b3_check.specs.Contents.{Contents};
 ghost use Rattle.b3_check.specs.Faults.{is_write_fault};
+ghost use Rattle.b3_check.specs.Laws.{AsksDigests, File, IsThere, Knows, Wrote, sums_of};
 ghost use Rattle.b3_check.specs.Options.{CanRun, limits_of};
 ghost use Rattle.b3_check.specs.Reading.{FindsMode};
 ghost use Rattle.b3_check.specs.Devices.{loans, scene_of};
@@ -58,6 +60,12 @@ pub fn run_sum<R: Threads + Wait + Sync, S: Shelf + Send + Sync, O: Sink, E: Sin
     ensures sure { IfOk result (λ tally. RanSurely (sum_script options.now (map string_bytes names.now))
         (scene S.Shelf O.Sink E.Sink shelf.old out.old err.old)
         (scene S.Shelf O.Sink E.Sink shelf.new out.new err.new) tally) }
+
+    // Of files that are known it writes the line of each, or its digest, in order.
+    ensures sums { (contents : Contents) (files : List File) → Knows (S.told shelf.old) (S.is_sure shelf.old) contents
+        → AsksDigests options.now → map string_bytes names.now ≡ map (λ file. file.name) files
+        → All (IsThere contents) files → IfOk result (λ tally. Wrote (sums_of options.now.form files)
+        (O.held out.old) (O.held out.new) (E.held err.old) (E.held err.new) tally) }
 
     // At a fault both sinks gained beginnings of the texts so far, and the fault has its cause.
     ensures fault { IfErr result (λ fault.

@@ -22,3 +22,5 @@ pub mod Results
 -- the lines of a text, and their places
 pub mod LinesOf
 pub mod PlacesFrom
+-- a line that was written is one line
+pub mod OneLine

@@ -90,7 +90,7 @@ All-behind P (x ∷ xs) ys all = All-behind P xs ys (All-tail P x (xs ++ ys) all
 -- ---- what is the lines of a text is `lines_of` it
 
 -- a line in front of a line feed
-lines_of-line : (line text : List ℕ) → HasNoFeed line → lines_of (line ++ 10 ∷ text) ≡ line ∷ lines_of text
+pub lines_of-line : (line text : List ℕ) → HasNoFeed line → lines_of (line ++ 10 ∷ text) ≡ line ∷ lines_of text
 lines_of-line [] text none = lines_of-feed text
 lines_of-line (b ∷ line) text none =
     lines_of-cons b (line ++ 10 ∷ text) (ne_eqb b 10 (HasNoFeed-head b line none))

@@ -1,9 +1,10 @@
 //! Tagged lines written.
 
 ghost use Rattle.std.specs.Prelude.{◌≡◌, ◌↔◌, ◌⊎◌, ◌++◌, ◌∷◌, [], List, ℕ, length, IsTrue, IfOk, IfErr, IsErrOf};
+ghost use Rattle.b3_lines.specs.Lines.{lines_of};
 ghost use Rattle.b3_lines.specs.Names.{holds_bad_character};
 ghost use Rattle.b3_lines.specs.Reading.{ReadsTagged};
-ghost use Rattle.b3_lines.specs.Writing.{shown, tagged};
+ghost use Rattle.b3_lines.specs.Writing.{shown, tagged, tagged_text};
 
 use crate::fault::LineFault;
 use crate::names::push_escaped;
@@ -30,6 +31,9 @@ pub fn write_tagged(alloc: Global, digest: &[u8], name: &str) -> Result<Vec<u8>,
     ensures read_back { length digest.now ≡ 32 → IfOk result (λ line. (written : List ℕ)
         × (line.items ≡ written ++ 10 ∷ [])
         × ReadsTagged written digest.now name.now (shown name.now)) }
+
+    // It is one line: its only line feed ends it.
+    ensures one_line { IfOk result (λ line. lines_of line.items ≡ tagged_text digest.now name.now ∷ []) }
 {
     let mut line = begin_line(alloc, digest, name, TAGGED_LEN)?;
     line.extend_from_slice(b"BLAKE3 (")?;

@@ -3,9 +3,10 @@
 ghost use Rattle.std.specs.Prelude.{◌≡◌, ◌↔◌, ◌⊎◌, ◌+◌, ◌*◌, ◌^◌, ◌<◌, ◌==◌, ◌++◌, ◌∷◌, [], List, ℕ, length, IsTrue, if◌then◌else◌, OnOk, IfOk, IfErr, IsErrOf};
 ghost use Rattle.std.specs.String.{string_bytes};
 ghost use Rattle.hex.specs.Hex.{encode_lower};
+ghost use Rattle.b3_lines.specs.Lines.{lines_of};
 ghost use Rattle.b3_lines.specs.Names.{holds_bad_character};
 ghost use Rattle.b3_lines.specs.Reading.{Reads};
-ghost use Rattle.b3_lines.specs.Writing.{mark, plain, shown};
+ghost use Rattle.b3_lines.specs.Writing.{mark, plain, plain_text, shown};
 
 use crate::fault::LineFault;
 use crate::names::{count_escaped, holds_bad_character, push_escaped};
@@ -31,6 +32,9 @@ pub fn write_line(alloc: Global, digest: &[u8], name: &str) -> Result<Vec<u8>, L
     ensures read_back { length digest.now ≡ 32 → IfOk result (λ line. (written : List ℕ)
         × (line.items ≡ written ++ 10 ∷ [])
         × Reads written digest.now name.now (shown name.now)) }
+
+    // It is one line: its only line feed ends it.
+    ensures one_line { IfOk result (λ line. lines_of line.items ≡ plain_text digest.now name.now ∷ []) }
 {
     let mut line = begin_line(alloc, digest, name, PLAIN_LEN)?;
     push_digits(&mut line, digest)?;

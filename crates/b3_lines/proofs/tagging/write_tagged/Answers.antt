@@ -1,7 +1,9 @@
 use Rattle.std.proofs.Common.{◌++◌, ◌∙◌, ap, arith}
 use Rattle.std.proofs.lemmas.Bool.{false_from_ne_true}
+use Rattle.b3_lines.specs.Lines.{lines_of}
 use Rattle.b3_lines.specs.Names.{escaped}
 use Rattle.b3_lines.specs.Writing.{tagged_text}
+use Rattle.b3_lines.proofs.OneLine.{HasNoFeed-tagged, lines_of-one}
 use Rattle.b3_lines.proofs.ReadBack.{ReadsTagged-tagged}
 use Rattle.b3_lines.proofs.Written.{tagged-written}
 use Rattle.b3_lines.proofs.tagging.write_tagged.Goals as goal
@@ -25,3 +27,9 @@ returns-clause-read_back c count =
           (λ none. cc (c.in_ok-line.ensures.no_name.1 none))
           (false_from_ne_true _ (λ bad. cc (c.in_ok-line.ensures.bad_character.1 bad))) c.utf8.name,
     )
+
+pub returns-clause-one_line : goal.returns-clause-one_line
+returns-clause-one_line c =
+    let digest = c.args.digest.now in
+    let name = c.args.name.now in
+    ap lines_of (returns-clause-written c) ∙ lines_of-one (tagged_text digest name) (HasNoFeed-tagged digest name)

@@ -1,0 +1,29 @@
+use Rattle.std.proofs.Common.{rules, ◌∙◌, List, ap, map, string_bytes, ℕ}
+use Rattle.std.proofs.lemmas.List.Elements.{recursion_from_All}
+use Rattle.b3_check.specs.Checks.{check_script}
+use Rattle.b3_check.specs.Laws.{IsThere, oks_of, verdicts_on}
+use Rattle.b3_check.specs.Scripts.{report_from}
+use Rattle.b3_check.proofs.CheckLemmas.{entry_of-read}
+use Rattle.b3_check.proofs.LawLemmas.{report_from-checked, report_from-sums, wrote_surely}
+use Rattle.b3_check.proofs.check.run_check.Goals as goal
+
+pub returns-clause-checks : goal.returns-clause-checks
+returns-clause-checks g c contents list text entries knows asks lists_are has says =
+    let options = c.args.options.now in
+    wrote_surely g.S.Shelf g.O.Sink g.E.Sink contents (check_script options (map string_bytes c.args.lists.now))
+    c.args.shelf.now c.args.shelf.now c.args.out.now _ c.args.err.now _ c.check_lists.result
+    (verdicts_on contents entries) knows
+    (ap (λ (ls : List (List ℕ)). report_from contents (check_script options ls)) lists_are
+    ∙ report_from-checked options contents list text entries asks has says) (search rules)
+
+pub returns-clause-sums_check : goal.returns-clause-sums_check
+returns-clause-sums_check g c contents form list files knows asks lists_are shows has there =
+    let options = c.args.options.now in
+    wrote_surely g.S.Shelf g.O.Sink g.E.Sink contents (check_script options (map string_bytes c.args.lists.now))
+    c.args.shelf.now c.args.shelf.now c.args.out.now _ c.args.err.now _ c.check_lists.result (oks_of files) knows
+    (ap (λ (ls : List (List ℕ)). report_from contents (check_script options ls)) lists_are
+    ∙ report_from-sums options form contents list files asks shows has
+    (recursion_from_All (IsThere contents) files there)) (search rules)
+
+pub returns-clause-entries : goal.returns-clause-entries
+returns-clause-entries g c = entry_of-read
