@@ -59,7 +59,7 @@ pub joined-joined : (p q r : Report) → joined (joined p q) r ≡ joined p (joi
 joined-joined p q r = simp (append_assoc, add_assoc)
 
 -- three tallies
-tally_sum-tally_sum : (a b c : Tally) → tally_sum (tally_sum a b) c ≡ tally_sum a (tally_sum b c)
+pub tally_sum-tally_sum : (a b c : Tally) → tally_sum (tally_sum a b) c ≡ tally_sum a (tally_sum b c)
 tally_sum-tally_sum a b c = simp (add_assoc)
 
 pub tally_sum-none : (a : Tally) → tally_sum a no_tally ≡ a
