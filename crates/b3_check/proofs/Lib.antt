@@ -14,6 +14,10 @@ pub mod TaskLemmas
 pub mod ReadLemmas
 -- Runs over lists of check lines.
 pub mod CheckLemmas
+-- What is written over a shelf that tells its contents, whatever fails.
+pub mod RightLemmas
+-- What is right and counts no failure: all names have their lines, all lines are verified.
+pub mod VerifiedLemmas
 -- What is known of items before the run comes to them.
 mod PrefetchLemmas
 -- Parts of a content that is read at offsets: what the next region adds to those before it.

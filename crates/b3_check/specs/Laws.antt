@@ -1,5 +1,5 @@
 -- What sums and checks write and count, in a user's words.
-use Rattle.std.specs.Prelude.{◌≡◌, ◌≢◌, ⊤, ℕ, Bool, false, true, if◌then◌else◌, IsUtf8, IsOk, List, [], ◌∷◌, ◌++◌, All, Contains, Option, None, Some, Result, bytes_eq, codes, length, string_bytes}
+use Rattle.std.specs.Prelude.{◌≡◌, ◌≢◌, ◌⊎◌, ⊤, ℕ, ◌&&◌, Bool, false, true, if◌then◌else◌, IsUtf8, List, [], ◌∷◌, ◌++◌, All, Option, None, Some, Result, Ok, Err, bytes_eq, codes, length, string_bytes}
 use Rattle.std.specs.Io.KnownBytes.{Appends}
 use Rattle.std.specs.List.{AllZip, flat_map}
 use Rattle.b3_core.specs.Modes.{hash_mode, keyed_mode}
@@ -10,6 +10,8 @@ use Rattle.b3_lines.specs.Lines.{lines_of}
 use Rattle.b3_lines.specs.Names.{holds_bad_character}
 use Rattle.b3_lines.specs.Reading.{IsReadAs}
 use Rattle.b3_lines.specs.Writing.{shown}
+use Rattle.b3_lines.specs.declared.fault.LineFault.{LineFault}
+use Rattle.b3_check.specs.declared.fault.RunFault.{RunFault}
 use Rattle.b3_check.specs.declared.judging.Verdict.{Verdict}
 use Rattle.b3_check.specs.declared.judging.Verdict.TheVariants.{Good, Differs, Missing, Unreadable}
 use Rattle.b3_check.specs.declared.options.CheckOptions.{CheckOptions}
@@ -18,11 +20,11 @@ use Rattle.b3_check.specs.declared.options.KeyChoice.{KeyChoice}
 use Rattle.b3_check.specs.declared.options.KeyChoice.TheVariants.{Plain, Keyed, Derive}
 use Rattle.b3_check.specs.declared.options.SumOptions.{SumOptions}
 use Rattle.b3_check.specs.declared.tally.Tally.{Tally}
-use Rattle.b3_check.specs.Checks.{Entry, verdict_text, unless_silent, warning}
+use Rattle.b3_check.specs.Checks.{Entry, list_end_report, refused_report, unread_list_report, verdict_report, warning, warning_report}
 use Rattle.b3_check.specs.Contents.{Contents}
-use Rattle.b3_check.specs.Scripts.{Report}
+use Rattle.b3_check.specs.Scripts.{Report, joined, nothing}
 use Rattle.b3_check.specs.Sinks.{GainsBeginning}
-use Rattle.b3_check.specs.Sums.{complaint, digest_text, key_name}
+use Rattle.b3_check.specs.Sums.{digest_text, failed_report, is_bad_name, key_name, name_report, shows_name}
 use Rattle.b3_check.specs.Tallies.{no_tally, one_differing, one_failed, one_ok, tally_sum}
 
 -- ---- the words
@@ -37,74 +39,120 @@ Says line entry = IsReadAs line entry.digest entry.name entry.shown
 
 -- ---- never wrong: over any shelf that tells its contents, whatever fails
 
+-- reports, one after the other
+abbrev pub total : List Report → Report
+total [] = nothing
+total (said ∷ others) = joined said (total others)
+
+-- two outputs gained the texts of a report, and the tally is its; at a fault they gained beginnings of the texts
+abbrev pub Writes : Report → Option (List ℕ) → Option (List ℕ) → Option (List ℕ) → Option (List ℕ)
+    → Result Tally RunFault → Type 0
+Writes said out_old out_new err_old err_new (Ok tally) =
+    Appends out_old out_new said.out × Appends err_old err_new said.err × (tally ≡ said.tally)
+Writes said out_old out_new err_old err_new (Err fault) =
+    GainsBeginning out_old out_new said.out × GainsBeginning err_old err_new said.err
+
 -- the mode that is asked for: a key is the content of `-`, of 32 bytes
 abbrev pub IsModeOf : Contents → KeyChoice → Mode → Type 0
 IsModeOf contents Plain mode = mode ≡ hash_mode
-IsModeOf contents Keyed mode = (key : List ℕ) × (contents key_name ≡ Some key) × (length key ≡ 32) × (mode ≡ keyed_mode key)
+IsModeOf contents Keyed mode =
+    (key : List ℕ) × (contents key_name ≡ Some key) × (length key ≡ 32) × (mode ≡ keyed_mode key)
 IsModeOf contents (Derive context) mode = mode ≡ derived_mode (string_bytes context)
 
--- the texts that were written of a name, on the output and on the error output
-pub record Texts : Type 0 where
-  pub out : List ℕ
-  pub err : List ℕ
+-- the form shows the name, and no line can
+abbrev pub cannot_show : Form → List ℕ → Bool
+cannot_show form name = shows_name form && is_bad_name name
 
--- they are right: the line of the digest of the name's content, or no line and a complaint
-pub data IsRight (contents : Contents) (options : SumOptions) (name : List ℕ) : Texts → Type 0 where
-  line : (mode : Mode) (content : List ℕ) → IsModeOf contents options.key mode → contents name ≡ Some content
-      → IsRight contents options name (record {
-        out = digest_text options.form (blake3 mode content options.seek options.length) name;
-        err = [];
-      })
-  complains : (why : List ℕ) → IsRight contents options name (record { out = []; err = complaint name why })
+-- the digest of the name's content is written of it, and nothing else
+pub record HasLine (contents : Contents) (options : SumOptions) (name : List ℕ) (said : Report) : Type 0 where
+  pub mode : Mode
+  pub content : List ℕ
+  pub is_mode : IsModeOf contents options.key mode
+  pub has : contents name ≡ Some content
+  pub can_show : cannot_show options.form name ≡ false
+  pub said_is : said ≡ name_report options.form name (Ok (blake3 mode content options.seek options.length))
 
--- two outputs gained these texts, name for name: of all names where the run went to its end, else of the first ones,
--- and a beginning
-pub record SumsRightly {T E : Type 0} (contents : Contents) (options : SumOptions) (names : List (List ℕ))
-    (out_old out_new err_old err_new : Option (List ℕ)) (result : Result T E) : Type 0 where
-  pub first : List (List ℕ)
-  pub others : List (List ℕ)
-  pub said : List Texts
-  pub of_names : names ≡ first ++ others
-  pub right : AllZip (IsRight contents options) first said
-  pub out : GainsBeginning out_old out_new (flat_map (λ texts. texts.out) said)
-  pub err : GainsBeginning err_old err_new (flat_map (λ texts. texts.err) said)
-  pub whole : IsOk result → (others ≡ []) × Appends out_old out_new (flat_map (λ texts. texts.out) said)
-      × Appends err_old err_new (flat_map (λ texts. texts.err) said)
+-- a name has its line, or a complaint in its place
+abbrev pub NameIsRight : Contents → SumOptions → List ℕ → Report → Type 0
+NameIsRight contents options name said =
+    HasLine contents options name said
+    ⊎ ((said ≡ failed_report name (codes "cannot read"))
+    ⊎ ((cannot_show options.form name ≡ true) × (said ≡ failed_report name (codes "bad name"))))
 
--- what a line of a list says, and the verdict on it
-pub record Judged : Type 0 where
-  pub entry : Entry
-  pub verdict : Verdict
+-- each name in order has its line or a complaint, and no more is written
+pub record SumsRightly (contents : Contents) (options : SumOptions) (names : List (List ℕ))
+    (out_old out_new err_old err_new : Option (List ℕ)) (result : Result Tally RunFault) : Type 0 where
+  pub said : List Report
+  pub right : AllZip (NameIsRight contents options) names said
+  pub writes : Writes (total said) out_old out_new err_old err_new result
 
--- it stands in one of these lists
-pub record StandsIn (contents : Contents) (lists : List (List ℕ)) (entry : Entry) : Type 0 where
-  pub list : List ℕ
-  pub text : List ℕ
-  pub line : List ℕ
-  pub is_asked : Contains lists list
-  pub has : contents list ≡ Some text
-  pub is_there : Contains (lines_of text) line
-  pub says : Says line entry
+-- each name in order has its line, and there is no complaint
+pub record WritesAll (contents : Contents) (options : SumOptions) (names : List (List ℕ))
+    (out_old out_new err_old err_new : Option (List ℕ)) : Type 0 where
+  pub said : List Report
+  pub lines : AllZip (HasLine contents options) names said
+  pub out : Appends out_old out_new (total said).out
+  pub err : Appends err_old err_new []
 
 -- the verdict is right: good only where the digest of the name's content is that of the line
 abbrev pub IsJust : Contents → Entry → Verdict → Type 0
 IsJust contents entry Good = (content : List ℕ) × (contents entry.name ≡ Some content) × (digest content ≡ entry.digest)
-IsJust contents entry Differs = (content : List ℕ) × (contents entry.name ≡ Some content) × (digest content ≢ entry.digest)
+IsJust contents entry Differs =
+    (content : List ℕ) × (contents entry.name ≡ Some content) × (digest content ≢ entry.digest)
 IsJust contents entry Missing = contents entry.name ≡ None
 IsJust contents entry Unreadable = ⊤
 
--- what is written of it
-abbrev pub judged_text : CheckOptions → Judged → List ℕ
-judged_text options judged = unless_silent options (verdict_text options judged.entry.shown judged.verdict)
+-- a line says its entry, on which there is a right verdict
+pub record HasVerdict (contents : Contents) (options : CheckOptions) (line : List ℕ) (said : Report) : Type 0 where
+  pub entry : Entry
+  pub verdict : Verdict
+  pub says : Says line entry
+  pub is_just : IsJust contents entry verdict
+  pub said_is : said ≡ verdict_report options entry.shown verdict
 
--- the output gained right verdicts on lines of the lists, and no more: at a fault a beginning of them
-pub record ChecksRightly {T E : Type 0} (contents : Contents) (options : CheckOptions) (lists : List (List ℕ))
-    (out_old out_new : Option (List ℕ)) (result : Result T E) : Type 0 where
-  pub judged : List Judged
-  pub stand : All (λ one. StandsIn contents lists one.entry) judged
-  pub just : All (λ one. IsJust contents one.entry one.verdict) judged
-  pub out : GainsBeginning out_old out_new (flat_map (judged_text options) judged)
-  pub whole : IsOk result → Appends out_old out_new (flat_map (judged_text options) judged)
+-- a line says nothing, which is said of it
+pub record IsRefused (options : CheckOptions) (list line : List ℕ) (said : Report) : Type 0 where
+  pub number : ℕ
+  pub fault : LineFault
+  pub says_nothing : (entry : Entry) → ¬ Says line entry
+  pub said_is : said ≡ refused_report options list number fault
+
+abbrev pub LineIsRight : Contents → CheckOptions → List ℕ → List ℕ → Report → Type 0
+LineIsRight contents options list line said =
+    HasVerdict contents options line said ⊎ IsRefused options list line said
+
+-- each line of a list in order has its verdict or is refused, and then comes what is wrong with the list as a whole
+pub record HasLines (contents : Contents) (options : CheckOptions) (list : List ℕ) (said : Report) : Type 0 where
+  pub text : List ℕ
+  pub of_lines : List Report
+  pub has : contents list ≡ Some text
+  pub right : AllZip (LineIsRight contents options list) (lines_of text) of_lines
+  pub said_is : said ≡ joined (total of_lines) (list_end_report options list (total of_lines).tally)
+
+-- a list has what is said of its lines, or a complaint in its place
+abbrev pub ListIsRight : Contents → CheckOptions → List ℕ → Report → Type 0
+ListIsRight contents options list said =
+    HasLines contents options list said ⊎ (said ≡ unread_list_report options list)
+
+-- each list in order has what is said of its lines or a complaint, then comes the warning, and no more is written
+pub record ChecksRightly (contents : Contents) (options : CheckOptions) (lists : List (List ℕ))
+    (out_old out_new err_old err_new : Option (List ℕ)) (result : Result Tally RunFault) : Type 0 where
+  pub said : List Report
+  pub right : AllZip (ListIsRight contents options) lists said
+  pub writes : Writes (joined (total said) (warning_report options (total said).tally))
+      out_old out_new err_old err_new result
+
+-- a line says the digest of the content of its name, or a name that is not there and is passed over
+abbrev pub LineIsVerified : Contents → CheckOptions → List ℕ → Type 0
+LineIsVerified contents options line =
+    (entry : Entry) × Says line entry
+    × (IsJust contents entry Good ⊎ ((options.ignore_missing ≡ true) × IsJust contents entry Missing))
+
+-- a list is there, and each of its lines is verified
+pub record ListIsVerified (contents : Contents) (options : CheckOptions) (list : List ℕ) : Type 0 where
+  pub text : List ℕ
+  pub has : contents list ≡ Some text
+  pub lines : All (LineIsVerified contents options) (lines_of text)
 
 -- ---- of files that are known: over a shelf that tells its contents, and fails nowhere else
 

@@ -8,12 +8,12 @@ ghost use Rattle.b3_check.specs.Checks.{Entry, check_script, entry_of, lines_scr
 ghost use Rattle.b3_check.specs.Contents.{Contents};
 ghost use Rattle.b3_check.specs.Digests.{line_range};
 ghost use Rattle.b3_check.specs.Faults.{is_write_fault};
-ghost use Rattle.b3_check.specs.Laws.{AsksAll, File, IsThere, Knows, Says, Wrote, oks_of, sums_of, verdicts_on};
+ghost use Rattle.b3_check.specs.Laws.{AsksAll, ChecksRightly, File, IsThere, Knows, ListIsVerified, Says, Wrote, oks_of, sums_of, verdicts_on};
 ghost use Rattle.b3_check.specs.Options.{CanCheck, check_limits};
 ghost use Rattle.b3_check.specs.Devices.{loans, scene_of};
 ghost use Rattle.b3_check.specs.Runs.{HasRoom, Ran, RanSurely, Runs, Stopped, scene};
 ghost use Rattle.b3_check.specs.Sums.{shows_name};
-ghost use Rattle.b3_check.specs.Tallies.{counted};
+ghost use Rattle.b3_check.specs.Tallies.{counted, status_of};
 ghost use Rattle.b3_check.specs.declared.options.Form.{Form};
 
 use crate::devices::Devices;
@@ -104,6 +104,17 @@ pub fn run_check<
         Stopped (check_limits options.now) (check_script options.now (map string_bytes lists.now))
         (scene S.Shelf O.Sink E.Sink shelf.old out.old err.old)
         (scene S.Shelf O.Sink E.Sink shelf.new out.new err.new) fault) }
+
+    // Over a shelf that tells its contents, whatever fails: each line of each list has the right verdict, `OK` only
+    // where its digest is that of the content, or is refused; at a fault a beginning of that is written.
+    ensures right { (contents : Contents) → S.told shelf.old ≡ Some contents
+        → ChecksRightly contents options.now (map string_bytes lists.now)
+        (O.held out.old) (O.held out.new) (E.held err.old) (E.held err.new) result }
+
+    // Where the status is 0 each line of each list says the digest of its name's content.
+    ensures all_verified { (contents : Contents) → S.told shelf.old ≡ Some contents
+        → IfOk result (λ tally. status_of tally ≡ 0
+        → All (ListIsVerified contents options.now) (map string_bytes lists.now)) }
 
     ensures write_fault { O.failures out.new + E.failures err.new
         ≡ O.failures out.old + E.failures err.old + (if is_write_fault result then 1 else 0) }

@@ -1,14 +1,15 @@
 //! The run that writes the digest of each name.
 
-ghost use Rattle.std.specs.Prelude.{◌≡◌, ◌+◌, ◌-◌, ◌^◌, ◌<◌, ◌≤◌, map, string_bytes, length, List, All, IfOk, IfErr, if◌then◌else◌};
+ghost use Rattle.std.specs.Prelude.{◌≡◌, ◌+◌, ◌-◌, ◌^◌, ◌<◌, ◌≤◌, List, All, Some, map, string_bytes, length, IfOk, IfErr, if◌then◌else◌};
 ghost use Rattle.b3_check.specs.Contents.{Contents};
 ghost use Rattle.b3_check.specs.Faults.{is_write_fault};
-ghost use Rattle.b3_check.specs.Laws.{AsksDigests, File, IsThere, Knows, Wrote, sums_of};
+ghost use Rattle.b3_check.specs.Laws.{AsksDigests, File, IsThere, Knows, SumsRightly, WritesAll, Wrote, sums_of};
 ghost use Rattle.b3_check.specs.Options.{CanRun, limits_of};
 ghost use Rattle.b3_check.specs.Reading.{FindsMode};
 ghost use Rattle.b3_check.specs.Devices.{loans, scene_of};
 ghost use Rattle.b3_check.specs.Runs.{HasRoom, Ran, RanSurely, Runs, Stopped, scene};
 ghost use Rattle.b3_check.specs.Sums.{keys_asked, sum_script};
+ghost use Rattle.b3_check.specs.Tallies.{status_of};
 ghost use Rattle.b3_check.specs.declared.options.Form.TheVariants.{Raw};
 
 use crate::devices::Devices;
@@ -72,6 +73,17 @@ pub fn run_sum<R: Threads + Wait + Sync, S: Shelf + Send + Sync, O: Sink, E: Sin
         Stopped (limits_of options.now) (sum_script options.now (map string_bytes names.now))
         (scene S.Shelf O.Sink E.Sink shelf.old out.old err.old)
         (scene S.Shelf O.Sink E.Sink shelf.new out.new err.new) fault) }
+
+    // Over a shelf that tells its contents, whatever fails: each name has the line of its content's digest, or a
+    // complaint in its place, and no more is written; at a fault a beginning of that.
+    ensures right { (contents : Contents) → S.told shelf.old ≡ Some contents
+        → SumsRightly contents options.now (map string_bytes names.now)
+        (O.held out.old) (O.held out.new) (E.held err.old) (E.held err.new) result }
+
+    // Where the status is 0 each name has its line.
+    ensures all_written { (contents : Contents) → S.told shelf.old ≡ Some contents
+        → IfOk result (λ tally. status_of tally ≡ 0 → WritesAll contents options.now (map string_bytes names.now)
+        (O.held out.old) (O.held out.new) (E.held err.old) (E.held err.new)) }
 
     ensures write_fault { O.failures out.new + E.failures err.new
         ≡ O.failures out.old + E.failures err.old + (if is_write_fault result then 1 else 0) }

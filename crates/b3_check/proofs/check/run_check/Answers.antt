@@ -5,6 +5,9 @@ use Rattle.b3_check.specs.Laws.{IsThere, oks_of, verdicts_on}
 use Rattle.b3_check.specs.Scripts.{report_from}
 use Rattle.b3_check.proofs.CheckLemmas.{entry_of-read}
 use Rattle.b3_check.proofs.LawLemmas.{report_from-checked, report_from-sums, wrote_surely}
+use Rattle.b3_check.specs.Options.{check_limits}
+use Rattle.b3_check.proofs.RightLemmas.{ChecksRightly-from_run}
+use Rattle.b3_check.proofs.VerifiedLemmas.{AllVerified-from_right}
 use Rattle.b3_check.proofs.check.run_check.Goals as goal
 
 pub returns-clause-checks : goal.returns-clause-checks
@@ -27,3 +30,14 @@ returns-clause-sums_check g c contents form list files knows asks lists_are show
 
 pub returns-clause-entries : goal.returns-clause-entries
 returns-clause-entries g c = entry_of-read
+
+pub returns-clause-right : goal.returns-clause-right
+returns-clause-right g c contents told =
+    let right = ChecksRightly-from_run (check_limits c.args.options.now) _ _ c.check_lists.result contents
+    c.args.options.now (map string_bytes c.args.lists.now) told c.check_lists.ensures.run in
+    search (rules, right)
+
+pub returns-clause-all_verified : goal.returns-clause-all_verified
+returns-clause-all_verified g c contents told =
+    AllVerified-from_right contents c.args.options.now (map string_bytes c.args.lists.now) _ _ _ _ c.check_lists.result
+    (returns-clause-right g c contents told)

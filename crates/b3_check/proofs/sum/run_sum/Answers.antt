@@ -3,6 +3,9 @@ use Rattle.std.proofs.lemmas.List.Elements.{recursion_from_All}
 use Rattle.b3_check.specs.Laws.{IsThere, sums_of}
 use Rattle.b3_check.specs.Sums.{sum_script}
 use Rattle.b3_check.proofs.LawLemmas.{report_from-summed, wrote_surely}
+use Rattle.b3_check.specs.Options.{limits_of}
+use Rattle.b3_check.proofs.RightLemmas.{SumsRightly-from_run}
+use Rattle.b3_check.proofs.VerifiedLemmas.{WritesAll-from_right}
 use Rattle.b3_check.proofs.sum.run_sum.Goals as goal
 
 pub returns-clause-sums : goal.returns-clause-sums
@@ -13,3 +16,14 @@ returns-clause-sums g c contents files knows asks names_are there =
     c.args.out.now _ c.args.err.now _ c.sum_names.result (sums_of options.form files) knows
     (report_from-summed options contents files names asks names_are (recursion_from_All (IsThere contents) files there))
     (search rules)
+
+pub returns-clause-right : goal.returns-clause-right
+returns-clause-right g c contents told =
+    let right = SumsRightly-from_run (limits_of c.args.options.now) _ _ c.sum_names.result contents c.args.options.now
+    (map string_bytes c.args.names.now) told c.sum_names.ensures.run in
+    search (rules, right)
+
+pub returns-clause-all_written : goal.returns-clause-all_written
+returns-clause-all_written g c contents told =
+    WritesAll-from_right contents c.args.options.now (map string_bytes c.args.names.now) _ _ _ _ c.sum_names.result
+    (returns-clause-right g c contents told)

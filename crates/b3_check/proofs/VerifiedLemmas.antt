@@ -1,0 +1,140 @@
+-- What is right and counts no failure: each name has its line, and each line of each list is verified.
+use Rattle.std.proofs.Common.{◌≡◌, ◌⊎◌, ℕ, ◌+◌, ◌==◌, ◌&&◌, true, List, [], ◌∷◌, ◌++◌, Option, Result, Ok, Err, refl, sym, ◌∙◌, ap, subst, inl, inr, arith}
+use Rattle.std.specs.Prelude.{All, IfOk}
+use Rattle.std.specs.Io.KnownBytes.{Appends}
+use Rattle.std.specs.List.{AllByRecursion, AllZip}
+use Rattle.std.proofs.lemmas.Bool.{and_parts, cases_Bool, cond-false, eqb-true}
+use Rattle.std.proofs.lemmas.List.Elements.{All-from_recursion}
+use Rattle.b3_lines.specs.Lines.{lines_of}
+use Rattle.b3_check.specs.declared.fault.RunFault.{RunFault}
+use Rattle.b3_check.specs.declared.judging.Verdict.{Verdict}
+use Rattle.b3_check.specs.declared.judging.Verdict.TheVariants.{Good, Differs, Missing, Unreadable}
+use Rattle.b3_check.specs.declared.options.CheckOptions.{CheckOptions}
+use Rattle.b3_check.specs.declared.options.SumOptions.{SumOptions}
+use Rattle.b3_check.specs.declared.tally.Tally.{Tally}
+use Rattle.b3_check.specs.Checks.{Entry, list_end_report, verdict_report}
+use Rattle.b3_check.specs.Contents.{Contents}
+use Rattle.b3_check.specs.Laws.{ChecksRightly, HasLine, IsJust, LineIsRight, LineIsVerified, ListIsRight, ListIsVerified, NameIsRight, SumsRightly, WritesAll, total}
+use Rattle.b3_check.specs.Scripts.{Report}
+use Rattle.b3_check.specs.Tallies.{one_failed, one_missing, status_of}
+
+-- a tally of status 0 counts no failure
+none_failed : (tally : Tally) → status_of tally ≡ 0 → (tally.failed ≡ 0) × (tally.lists ≡ 0)
+none_failed tally passed = elim (cases_Bool (tally.failed == 0 && tally.lists == 0)) [
+  | inl good ↦
+      let both = and_parts (tally.failed == 0) (tally.lists == 0) good in
+      (eqb-true tally.failed 0 both.0, eqb-true tally.lists 0 both.1)
+  | inr bad ↦
+      let one : 1 ≡ 0 = sym (cond-false (tally.failed == 0 && tally.lists == 0) 0 1 bad) ∙ passed in
+      absurd (omega (arith, one))
+]
+
+-- of reports that count no failed name each is a line
+HasLine-from_right : (contents : Contents) (options : SumOptions) (names : List (List ℕ)) (said : List Report)
+    → AllZip (NameIsRight contents options) names said → (total said).tally.failed ≡ 0
+    → AllZip (HasLine contents options) names said × ((total said).err ≡ [])
+HasLine-from_right contents options [] [] right none = (tt, refl)
+HasLine-from_right contents options [] (one ∷ said) right none = absurd right
+HasLine-from_right contents options (name ∷ names) [] right none = absurd right
+HasLine-from_right contents options (name ∷ names) (one ∷ said) right none = elim right.0 [
+  | inl line ↦
+      let rest = HasLine-from_right contents options names said right.1 (omega (arith, none)) in (
+        (line, rest.0),
+        ap (λ (p : Report). p.err ++ (total said).err) line.said_is ∙ rest.1,
+      )
+  | inr complains ↦
+      let failed : one.tally.failed ≡ 1 = elim complains [
+        | inl unread ↦ ap (λ (p : Report). p.tally.failed) unread
+        | inr bad ↦ ap (λ (p : Report). p.tally.failed) bad.1
+      ] in
+      absurd (omega (arith, none, failed))
+]
+
+pub WritesAll-from_right : (contents : Contents) (options : SumOptions) (names : List (List ℕ))
+    (out_old out_new err_old err_new : Option (List ℕ)) (result : Result Tally RunFault)
+    → SumsRightly contents options names out_old out_new err_old err_new result
+    → IfOk result (λ tally. status_of tally ≡ 0 → WritesAll contents options names out_old out_new err_old err_new)
+WritesAll-from_right contents options names out_old out_new err_old err_new (Err fault) right = tt
+WritesAll-from_right contents options names out_old out_new err_old err_new (Ok tally) right = λ passed.
+    let counted = ap (λ (t : Tally). t.failed) right.writes.2 in
+    let none = sym counted ∙ (none_failed tally passed).0 in
+    let lines = HasLine-from_right contents options names right.said right.right none in
+    record {
+      said = right.said;
+      lines = lines.0;
+      out = right.writes.0;
+      err = subst (Appends err_old err_new) lines.1 right.writes.1;
+    }
+
+-- a verdict that counts no failed line is good, or on a missing name that is passed over
+verified : (contents : Contents) (options : CheckOptions) (entry : Entry) (verdict : Verdict)
+    → IsJust contents entry verdict → (verdict_report options entry.shown verdict).tally.failed ≡ 0
+    → IsJust contents entry Good ⊎ ((options.ignore_missing ≡ true) × IsJust contents entry Missing)
+verified contents options entry Good is none = inl is
+verified contents options entry Differs is none = absurd (omega (arith, none))
+verified contents options entry Unreadable is none = absurd (omega (arith, none))
+verified contents options entry Missing is none = elim (cases_Bool options.ignore_missing) [
+  | inl passed ↦ inr (passed, is)
+  | inr counted ↦
+      let one = ap (λ (t : Tally). t.failed) (cond-false options.ignore_missing one_missing one_failed counted) in
+      absurd (omega (arith, one, none))
+]
+
+-- of reports that count no failed line each is on one that is verified
+LineIsVerified-from_right : (contents : Contents) (options : CheckOptions) (list : List ℕ) (lines : List (List ℕ))
+    (said : List Report) → AllZip (LineIsRight contents options list) lines said → (total said).tally.failed ≡ 0
+    → AllByRecursion (LineIsVerified contents options) lines
+LineIsVerified-from_right contents options list [] said right none = tt
+LineIsVerified-from_right contents options list (line ∷ lines) [] right none = absurd right
+LineIsVerified-from_right contents options list (line ∷ lines) (one ∷ said) right none = elim right.0 [
+  | inl has ↦
+      let counted = ap (λ (p : Report). p.tally.failed) has.said_is in (
+        (
+          has.entry,
+          has.says,
+          verified contents options has.entry has.verdict has.is_just (omega (arith, none, counted)),
+        ),
+        LineIsVerified-from_right contents options list lines said right.1 (omega (arith, none)),
+      )
+  | inr refused ↦
+      let counted = ap (λ (p : Report). p.tally.failed) refused.said_is in
+      absurd (omega (arith, none, counted))
+]
+
+-- the same of lists
+ListIsVerified-from_right : (contents : Contents) (options : CheckOptions) (lists : List (List ℕ))
+    (said : List Report) → AllZip (ListIsRight contents options) lists said → (total said).tally.failed ≡ 0
+    → (total said).tally.lists ≡ 0 → AllByRecursion (ListIsVerified contents options) lists
+ListIsVerified-from_right contents options [] said right none no_list = tt
+ListIsVerified-from_right contents options (list ∷ lists) [] right none no_list = absurd right
+ListIsVerified-from_right contents options (list ∷ lists) (one ∷ said) right none no_list = elim right.0 [
+  | inl has ↦
+      let counted : one.tally.failed
+      ≡ (total has.of_lines).tally.failed + (list_end_report options list (total has.of_lines).tally).tally.failed =
+      ap (λ (p : Report). p.tally.failed) has.said_is in
+      let lines = LineIsVerified-from_right contents options list (lines_of has.text) has.of_lines has.right
+      (omega (arith, none, counted)) in (
+        record {
+          text = has.text;
+          has = has.has;
+          lines = All-from_recursion (LineIsVerified contents options) (lines_of has.text) lines;
+        },
+        ListIsVerified-from_right contents options lists said right.1 (omega (arith, none)) (omega (arith, no_list)),
+      )
+  | inr unread ↦
+      let counted = ap (λ (p : Report). p.tally.lists) unread in
+      absurd (omega (arith, no_list, counted))
+]
+
+pub AllVerified-from_right : (contents : Contents) (options : CheckOptions) (lists : List (List ℕ))
+    (out_old out_new err_old err_new : Option (List ℕ)) (result : Result Tally RunFault)
+    → ChecksRightly contents options lists out_old out_new err_old err_new result
+    → IfOk result (λ tally. status_of tally ≡ 0 → All (ListIsVerified contents options) lists)
+AllVerified-from_right contents options lists out_old out_new err_old err_new (Err fault) right = tt
+AllVerified-from_right contents options lists out_old out_new err_old err_new (Ok tally) right = λ passed.
+    let none = none_failed tally passed in
+    let failed : tally.failed ≡ (total right.said).tally.failed + 0 = ap (λ (t : Tally). t.failed) right.writes.2 in
+    let no_list : tally.lists ≡ (total right.said).tally.lists + 0 = ap (λ (t : Tally). t.lists) right.writes.2 in
+    All-from_recursion (ListIsVerified contents options) lists
+    (ListIsVerified-from_right contents options lists right.said right.right (omega (arith, none.0, failed))
+    (omega (arith, none.1, no_list)))
