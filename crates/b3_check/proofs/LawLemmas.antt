@@ -38,7 +38,7 @@ use Rattle.b3_check.specs.Checks.{Entry, check_script, line_script, line_scripts
 use Rattle.b3_check.specs.Digests.{digest_of, digest_script, line_range}
 use Rattle.b3_check.specs.Laws.{AsksAll, AsksDigests, File, IsThere, Knows, Says, Wrote, all_ok, counted_over, digest, line_of, ok_of, oks_of, sums_of, tally_of, verdict, verdict_line, verdict_over, verdicts_on, words_of}
 use Rattle.b3_check.specs.Runs.{RanFrom, RanSurely, RanSurelyOver, Scene, scene}
-use Rattle.b3_check.specs.Scripts.{Report, Script, answer_of, followed_by, in_turn, joined, nothing, report_from, then_counted}
+use Rattle.b3_check.specs.Scripts.{Report, Script, answer_of, followed_by, in_turn, joined, report_from, then_counted}
 use Rattle.b3_check.specs.Scripts.Kind.{Hashed, Listed}
 use Rattle.b3_check.specs.Scripts.Script.{Ask, Done, Fail, Say}
 use Rattle.b3_check.specs.Sums.{failed_report, is_bad_name, name_report, names_script, shows_name, sum_script}
