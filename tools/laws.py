@@ -71,6 +71,11 @@ LAWS = (
         "Whatever fails, each line has its right verdict, OK only where its digest is the content's, or is refused; "
         "at a fault there is a beginning of that.",
         (Clauses("b3_check/src/check.rt", "run_check", ("right",)),), (TO_CHECK,)),
+    Law("Status 0",
+        "Where the status is 0, each name has the line of its content's digest, and each line of a list says that of its "
+        "name.",
+        (Clauses("b3_check/src/sum.rt", "run_sum", ("all_written",)),
+         Clauses("b3_check/src/check.rt", "run_check", ("all_verified",))), (TO_SUM, TO_CHECK)),
     Law("Which contents these are",
         "The program's shelf tells what its disk and its input tell, and its outputs tell what their writers hold.",
         (Ghosts("b3_program/src/files.rt", "Shelf for FileShelf", ("told", "is_sure")),
