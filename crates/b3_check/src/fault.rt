@@ -1,17 +1,17 @@
 //! What ends a run.
 
-ghost use Rattle.std.specs.Prelude.{◌≡◌, Some};
+ghost use Rattle.std.specs.Prelude.{◌≡◌};
 ghost use Rattle.b3_check.specs.Faults.{fault_text};
 ghost use Rattle.b3_check.specs.declared.fault.RunFault.TheVariants.{Memory, WriteFault};
 
 use crate::sink::SinkFailed;
 use std::alloc::AllocError;
-use std::error::Error;
-use std::fmt;
+use thiserror::Error;
 
 /// What ends a run, with the number of the fault, which is no status: a program that meets any of them
 /// ends with 1.
-#[derive(Clone, Copy, Debug, PartialEq, Eq)]
+#[derive(Clone, Copy, Debug, PartialEq, Eq, Error)]
+#[error("{}", self.text())]
 pub enum RunFault {
     /// The key cannot be read.
     ReadFault = 1,
@@ -40,16 +40,6 @@ impl RunFault {
         }
     }
 }
-
-impl fmt::Display for RunFault {
-    ghost output = { λ fault. Some (fault_text fault) };
-
-    fn fmt<W: fmt::Write>(&self, f: &mut fmt::Formatter<W>) -> fmt::Result {
-        f.write_str(self.text())
-    }
-}
-
-impl Error for RunFault {}
 
 impl From<AllocError> for RunFault {
     ghost from_gives = { λ _ fault. fault ≡ Memory };

@@ -91,29 +91,35 @@ fn tops_around_whole_numbers_of_chunks(rt: HostRuntime) -> Result<(), Fail> {
 
 const FIRST: u64 = 4_294_967_292;
 
-// The counters' low words wrap between lanes 3 and 4, and the high words rise there.
+// The counters of eight chunks from `FIRST` on: their low words wrap between lanes 3 and 4, and their high words rise
+// there.
+const LOW_WORDS: [u32; 8] = [
+    4_294_967_292,
+    4_294_967_293,
+    4_294_967_294,
+    4_294_967_295,
+    0,
+    1,
+    2,
+    3,
+];
+
+const HIGH_WORDS: [u32; 8] = [0, 0, 0, 0, 1, 1, 1, 1];
+
 #[test]
 fn counters_across_2_to_the_32(rt: HostRuntime) -> Result<(), Fail> {
-    let numbers = [
-        FIRST,
-        FIRST + 1,
-        FIRST + 2,
-        FIRST + 3,
-        FIRST + 4,
-        FIRST + 5,
-        FIRST + 6,
-        FIRST + 7,
-    ];
     let bytes = pattern(rt.alloc(), 8192)?;
     let mut eight = [0; 8192];
     eight.copy_from_slice(&bytes);
     let mode = Mode::keyed(KEY);
     let chainings = chain8(&mode, FIRST, &eight);
     for j in 0..8usize {
+        let number = u64::from(HIGH_WORDS[j]) << 32 | u64::from(LOW_WORDS[j]);
+        assert_eq!(rt; number, FIRST + j as u64, "lane {j}");
         let chunk = &bytes[CHUNK_LEN * j..CHUNK_LEN * j + CHUNK_LEN];
         assert_eq!(rt;
             chainings[j],
-            chunk_node(&mode, numbers[j], chunk).chaining(),
+            chunk_node(&mode, number, chunk).chaining(),
             "lane {j}"
         );
     }

@@ -41,21 +41,30 @@ fn siblings_of_five_chunks(rt: HostRuntime) {
     assert_sibling(&rt, 5, span(2, 0), None);
 }
 
+// The spans (first, count) that are subtrees of six chunks, all of them.
+const SUBTREES_OF_SIX: [(u64, u64); 11] = [
+    (0, 6),
+    (0, 4),
+    (4, 2),
+    (0, 2),
+    (2, 2),
+    (0, 1),
+    (1, 1),
+    (2, 1),
+    (3, 1),
+    (4, 1),
+    (5, 1),
+];
+
 #[test]
 fn subtrees_of_six_chunks(rt: HostRuntime) {
-    for (first, count) in [(0u64, 6u64), (0, 4), (4, 2), (0, 2), (2, 2), (4, 1), (5, 1)] {
-        assert_subtree(&rt, 6, span(first, count), true);
+    for first in 0..8u64 {
+        for count in 0..8u64 {
+            let want = SUBTREES_OF_SIX.contains(&(first, count));
+            assert_subtree(&rt, 6, span(first, count), want);
+        }
     }
-    for (first, count) in [
-        (2u64, 4u64),
-        (0, 3),
-        (1, 2),
-        (4, 3),
-        (6, 1),
-        (3, 0),
-        (u64::MAX, 1),
-        (1, u64::MAX),
-    ] {
+    for (first, count) in [(u64::MAX, 1u64), (1, u64::MAX)] {
         assert_subtree(&rt, 6, span(first, count), false);
     }
 }

@@ -1,0 +1,66 @@
+// No call takes memory.
+
+use super::vectors::KEY;
+use b3_core::{
+    BLOCK_LEN, CHUNK_LEN, Mode, Node, Span, block_node, chain8, chunk_node, chunks, compress,
+    compress8, is_subtree, last_block_node, left, parent_node, sibling, top,
+};
+
+/// `make refused` refuses the first growth, here and in the next test: it is the one after the last call.
+#[test]
+fn nodes_take_no_memory(rt: HostRuntime) {
+    let mode = Mode::keyed(KEY);
+    let eight = [7; 8192];
+    let (bytes, _) = eight.split_at(CHUNK_LEN);
+    let chunk = chunk_node(&mode, 5, bytes);
+    let words = compress(&chunk.h, &chunk.m, chunk.t, chunk.b, chunk.d);
+    let all = compress8(
+        &[chunk.h; 8],
+        &[chunk.m; 8],
+        &[chunk.t; 8],
+        chunk.b,
+        chunk.d,
+    );
+    assert_eq!(rt; all[7], words);
+    let chainings = chain8(&mode, 5, &eight);
+    assert_eq!(rt; chainings[0], chunk.chaining());
+    let parent = parent_node(&mode, &chainings[0], &chainings[1]);
+    assert_eq!(rt; top(&mode, 5, &eight[..2048]), parent);
+    assert_eq!(rt; top(&mode, 5, &eight).d, 4 | 16);
+    let mut blocks = [0; 512];
+    parent.blocks8(0, &mut blocks);
+    assert_eq!(rt; blocks[64..128], parent.block(1)[..]);
+    let (block, _) = bytes.split_at(BLOCK_LEN);
+    let open = block_node(&mode, 5, 0, &mode.key, block);
+    let last = last_block_node(&mode, 5, 0, &mode.key, block);
+    assert_eq!(rt;
+        last,
+        Node {
+            d: 1 | 2 | 16,
+            ..open
+        }
+    );
+    assert!(rt;
+        String::from_str(rt.alloc(), "x").is_ok(),
+        "refused after the last call"
+    );
+}
+
+#[test]
+fn trees_and_modes_take_no_memory(rt: HostRuntime) {
+    let flags = [
+        Mode::hash().flag,
+        Mode::keyed(KEY).flag,
+        Mode::context().flag,
+        Mode::material(KEY).flag,
+    ];
+    assert_eq!(rt; flags, [0, 16, 32, 64]);
+    assert_eq!(rt; (chunks(5_000), left(5)), (5, 4));
+    let (four, one) = (Span { first: 0, count: 4 }, Span { first: 4, count: 1 });
+    assert!(rt; is_subtree(5, one));
+    assert_eq!(rt; sibling(5, one), Some(four));
+    assert!(rt;
+        String::from_str(rt.alloc(), "x").is_ok(),
+        "refused after the last call"
+    );
+}
