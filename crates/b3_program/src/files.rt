@@ -103,6 +103,11 @@ fn why_not(error: &io::Error) -> NoContent
     }
 }
 
+// Whether a file tells a length above 0, and of at most so many bytes.
+fn is_soon_read(plain_len: Option<u64>, longest: u64) -> bool {
+    plain_len.is_some_and(|len| (1..=longest).contains(&len))
+}
+
 // Has a file of at most so many bytes hashed, piece by piece, and answers whether it has.
 fn hash_file<F: DiskFile>(file: &F, longest: u64, buffer: &mut [u8], hasher: &mut Hasher) -> bool
     requires buffer { 0 < length buffer.old }
@@ -207,19 +212,16 @@ impl<D: Disk, I: Input> Shelf for FileShelf<D, I> {
         Ok(count)
     }
 
-    // Of a plain file that tells its length, and of no other: those of `/proc` tell 0.
+    // Of a plain file that tells its length, and of no other: those of `/proc` tell 0. The name is asked first, since a
+    // FIFO would wait to be opened; then the open file, which may be another by then, and would wait to be read.
     fn hash_whole(&self, name: &str, longest: u64, buffer: &mut [u8], hasher: &mut Hasher) -> bool {
-        if name == INPUT_NAME {
+        if name == INPUT_NAME || !is_soon_read(self.disk.plain_len(name), longest) {
             return false;
         }
-        match self.disk.plain_len(name) {
-            Some(len) if (1..=longest).contains(&len) => {}
-            _ => return false,
-        }
-        match self.disk.open(name) {
-            Ok(file) => hash_file(&file, longest, buffer, hasher),
-            Err(_) => false,
-        }
+        let Ok(file) = self.disk.open(name) else {
+            return false;
+        };
+        is_soon_read(file.plain_len(), longest) && hash_file(&file, longest, buffer, hasher)
     }
 
     // All who read hold the one file that is open: another file under its name changes nothing.
