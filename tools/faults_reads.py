@@ -1,4 +1,4 @@
-"""Rows of tools/faults: just the bytes that are asked for are read, no failed read is an end, and no file is changed."""
+"""Rows of tools/faults: which bytes are read, that no failed read is an end, and that no file is changed."""
 
 import os
 import shutil
@@ -33,8 +33,8 @@ def disturbed_reads(faults):
             reads_that_end(faults, f"a file of {length} bytes with {told}", expected, {**preloaded, **told})
     Path("disturbed").write_bytes(PATTERN)
     with open("disturbed", "rb") as given:
-        faults.row("a key that fails in the middle", ["--keyed", "e"], "", "b3sum: cannot read the key\n", 1, stdin=given,
-                   env={**preloaded, "FAILS_FROM": "31"})
+        faults.row("a key that fails in the middle", ["--keyed", "e"], "", "b3sum: cannot read the key\n", 1,
+                   stdin=given, env={**preloaded, "FAILS_FROM": "31"})
 
 
 def reads_that_fail(faults, name, expected, env):
@@ -101,8 +101,9 @@ def state(folder):
 
 def a_folder_of_odd_names(faults):
     """Names that are alike but for blanks, line ends, case or signs, each with its own content. No run changes one."""
-    names = ["n", " n", "n ", " n ", "\tn", "n\t", "n\n", "\nn", "n\r", "n\r\n", "\\n", "n\\", "N", "nn", "-n", "--n", "n.",
-             ".n", "ñ", "n\u0303", "*", "?", "'", '"', "$n", "~", "n" * 255, "n" * 254, " " * 255, f"{Z0}  n", "#n"]
+    names = ["n", " n", "n ", " n ", "\tn", "n\t", "n\n", "\nn", "n\r", "n\r\n", "\\n", "n\\", "N", "nn", "-n", "--n",
+             "n.", ".n", "ñ", "n\u0303", "*", "?", "'", '"', "$n", "~", "n" * 255, "n" * 254, " " * 255,
+             f"{Z0}  n", "#n"]
     os.mkdir("odd")
     for number, name in enumerate(names):
         Path("odd", name).write_bytes(PATTERN[number : number + 1 + 700 * number])
