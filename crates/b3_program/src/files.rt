@@ -3,7 +3,7 @@ ghost use Rattle.std.specs.IoError.{error_kind};
 ghost use Rattle.b3_check.specs.Contents.{Gives, HasContent, StandsForContent, LacksContent};
 ghost use Rattle.b3_check.specs.declared.shelf.NoContent.TheVariants.{Missing};
 ghost use Rattle.b3_hash.specs.Hashers.{StandsFor, mode_of};
-ghost use Rattle.b3_program.specs.Disks.{IsOfMissing};
+ghost use Rattle.b3_program.specs.Disks.{IsOfMissing, IsRefusedBy};
 ghost use Rattle.b3_program.specs.Files.{file_side, contents_with, input_side, is_input, is_open, rest_of, source_left, source_position, source_tells, told_if};
 
 use crate::disk::{Disk, DiskFile, Input};
@@ -159,6 +159,7 @@ impl<D: Disk, I: Input> Shelf for FileShelf<D, I> {
             ≡ Some (source_left D.File.content I.content I.position I.File.content self.new.source self.new.given)) }
         ensures missing { IsTrue D.File.tells → result ≡ Err Missing
             → contents_with (D.contents self.old.disk) (rest_of I.content I.position self.old.input) name.now ≡ None }
+        ensures refused { name.now ≢ codes "-" → IfErr result (IsRefusedBy (D.fails_by self.old.disk name.now)) }
 
         // The input can be begun once, and is never missing; no other name takes it.
         ensures input { name.now ≡ codes "-" → (IsOk result ↔ (self.old.is_input_taken ≡ false)) }
