@@ -1,7 +1,9 @@
 -- What files and streams give, where they tell their bytes.
-use Rattle.std.specs.Prelude.{◌≡◌, ◌⊎◌, ℕ, ◌+◌, List, drop, take, Result, Ok, Err, IfOk}
+use Rattle.std.specs.Prelude.{◌≡◌, ◌↔◌, ◌⊎◌, ℕ, ◌+◌, List, drop, take, Result, Ok, Err, IfOk}
 use Rattle.std.specs.declared.io.ErrorKind.{ErrorKind}
 use Rattle.std.specs.declared.io.ErrorKind.TheVariants.{NotFound, NotADirectory}
+use Rattle.b3_check.specs.declared.shelf.NoContent.{NoContent}
+use Rattle.b3_check.specs.declared.shelf.NoContent.TheVariants.{Missing}
 use Rattle.b3_check.specs.Contents.{Gives}
 
 -- how many bytes a read gave
@@ -17,3 +19,9 @@ ReadsAt content offset result buffer =
 -- no such name is there, or what should be a folder on its way is none
 abbrev pub IsOfMissing : ErrorKind → Type 0
 IsOfMissing kind = (kind ≡ NotFound) ⊎ (kind ≡ NotADirectory)
+
+-- a name is refused for one of these errors: as missing just where that error says so
+pub record IsRefusedBy (fails_by : ErrorKind → Type 0) (why : NoContent) : Type 0 where
+  pub kind : ErrorKind
+  pub may : fails_by kind
+  pub missing : (why ≡ Missing) ↔ IsOfMissing kind

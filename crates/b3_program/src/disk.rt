@@ -3,6 +3,7 @@
 ghost use Rattle.std.specs.Prelude.{◌≡◌, ℕ, ◌+◌, ◌<◌, Bool, IsTrue, List, length, drop, IfErr, IfOk, IfSome, Some, None};
 ghost use Rattle.std.specs.Io.{ReadsAtMost};
 ghost use Rattle.std.specs.IoError.{error_kind};
+ghost use Rattle.std.specs.declared.io.ErrorKind.{ErrorKind};
 ghost use Rattle.b3_check.specs.Contents.{Contents};
 ghost use Rattle.b3_program.specs.Disks.{IsOfMissing, ReadsAt, count_of};
 
@@ -47,13 +48,17 @@ pub trait Disk {
     /// The content of each name, where files tell theirs; nothing for a name that is not there.
     ghost contents: { Self → Contents };
 
+    /// The errors by which opening a name may fail.
+    ghost fails_by: { Self → List ℕ → ErrorKind → Type 0 };
+
     /// Opens the file of this name, at its beginning.
     fn open(&self, name: &str) -> io::Result<Self::File>
         ensures content { IsTrue Self.File.tells
             → IfOk result (λ file. contents self.now name.now ≡ Some (Self.File.content file)) }
         ensures beginning { IsTrue Self.File.tells → IfOk result (λ file. Self.File.position file ≡ 0) }
         ensures missing { IsTrue Self.File.tells
-            → IfErr result (λ error. IsOfMissing (error_kind error) → contents self.now name.now ≡ None) };
+            → IfErr result (λ error. IsOfMissing (error_kind error) → contents self.now name.now ≡ None) }
+        ensures error { IfErr result (λ error. fails_by self.now name.now (error_kind error)) };
 
     /// The length of a plain file of this name, as it tells it: of which nothing is promised. None of any other.
     fn plain_len(&self, name: &str) -> Option<u64>;

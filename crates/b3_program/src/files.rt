@@ -3,7 +3,7 @@ ghost use Rattle.std.specs.IoError.{error_kind};
 ghost use Rattle.b3_check.specs.Contents.{Gives, HasContent, StandsForContent, LacksContent};
 ghost use Rattle.b3_check.specs.declared.shelf.NoContent.TheVariants.{Missing};
 ghost use Rattle.b3_hash.specs.Hashers.{StandsFor, mode_of};
-ghost use Rattle.b3_program.specs.Disks.{IsOfMissing};
+ghost use Rattle.b3_program.specs.Disks.{IsOfMissing, IsRefusedBy};
 ghost use Rattle.b3_program.specs.Files.{file_side, contents_with, input_side, is_input, is_open, rest_of, source_left, source_position, source_tells, told_if};
 
 use crate::disk::{Disk, DiskFile, Input};
@@ -103,6 +103,11 @@ fn why_not(error: &io::Error) -> NoContent
     }
 }
 
+// Whether a file tells a length above 0, and of at most so many bytes.
+fn is_soon_read(plain_len: Option<u64>, longest: u64) -> bool {
+    plain_len.is_some_and(|len| (1..=longest).contains(&len))
+}
+
 // Has a file of at most so many bytes hashed, piece by piece, and answers whether it has.
 fn hash_file<F: DiskFile>(file: &F, longest: u64, buffer: &mut [u8], hasher: &mut Hasher) -> bool
     requires buffer { 0 < length buffer.old }
@@ -154,6 +159,7 @@ impl<D: Disk, I: Input> Shelf for FileShelf<D, I> {
             ≡ Some (source_left D.File.content I.content I.position I.File.content self.new.source self.new.given)) }
         ensures missing { IsTrue D.File.tells → result ≡ Err Missing
             → contents_with (D.contents self.old.disk) (rest_of I.content I.position self.old.input) name.now ≡ None }
+        ensures refused { name.now ≢ codes "-" → IfErr result (IsRefusedBy (D.fails_by self.old.disk name.now)) }
 
         // The input can be begun once, and is never missing; no other name takes it.
         ensures input { name.now ≡ codes "-" → (IsOk result ↔ (self.old.is_input_taken ≡ false)) }
@@ -207,19 +213,16 @@ impl<D: Disk, I: Input> Shelf for FileShelf<D, I> {
         Ok(count)
     }
 
-    // Of a plain file that tells its length, and of no other: those of `/proc` tell 0.
+    // Of a plain file that tells its length, and of no other: those of `/proc` tell 0. The name is asked first, since a
+    // FIFO would wait to be opened; then the open file, which may be another by then, and would wait to be read.
     fn hash_whole(&self, name: &str, longest: u64, buffer: &mut [u8], hasher: &mut Hasher) -> bool {
-        if name == INPUT_NAME {
+        if name == INPUT_NAME || !is_soon_read(self.disk.plain_len(name), longest) {
             return false;
         }
-        match self.disk.plain_len(name) {
-            Some(len) if (1..=longest).contains(&len) => {}
-            _ => return false,
-        }
-        match self.disk.open(name) {
-            Ok(file) => hash_file(&file, longest, buffer, hasher),
-            Err(_) => false,
-        }
+        let Ok(file) = self.disk.open(name) else {
+            return false;
+        };
+        is_soon_read(file.plain_len(), longest) && hash_file(&file, longest, buffer, hasher)
     }
 
     // All who read hold the one file that is open: another file under its name changes nothing.

@@ -79,11 +79,13 @@ impl<'a> MemoryDisk<'a> {
 }
 
 impl<'a> Disk for MemoryDisk<'a> {
-    ghost use Rattle.b3_program.specs.MemoryDisks.{content_among};
+    ghost use Rattle.b3_program.specs.MemoryDisks.{IsNotAmong, content_among};
 
     type File = MemoryFile<'a>;
 
     ghost contents = { λ disk. content_among disk.files.now };
+
+    ghost fails_by = { λ disk name kind. IsNotAmong disk.files.now name kind };
 
     fn open(&self, name: &str) -> io::Result<MemoryFile<'a>> {
         match find(self.files, name) {

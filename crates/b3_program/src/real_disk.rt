@@ -63,9 +63,11 @@ where
 {
     type File = RealFile<F::File>;
 
-    ghost use Rattle.std.specs.Prelude.{None};
+    ghost use Rattle.std.specs.Prelude.{⊤, None};
 
     ghost contents = { λ _ _. None };
+
+    ghost fails_by = { λ _ _ _. ⊤ };
 
     // Opens the file of this name, to the character, for reading alone; the error is the system's.
     fn open(&self, name: &str) -> io::Result<RealFile<F::File>> {
