@@ -12,6 +12,7 @@
 # `make soak` runs it for two minutes on random trees and lists, with outputs, memory and descriptors that fail it.
 # `make bench` times it and the installed b3sum, the code on lanes beside the word code, and runs of workers, and writes
 # the tables of README.md and docs/BENCH.md and docs/bench.svg. It ends with 1 where a row is above what is wanted.
+# `make imports` compares the names that it imports from the C library with a list.
 # `make audit` compares docs/AUDIT.md with the files that it names, and looks for those that it should name.
 # `make cheat EDIT=crates/NAME/must-fail/WRONG.edit` tries one wrong body, which the prover must refuse.
 
@@ -33,7 +34,7 @@ SOURCES := crates.txt $(shell find crates/*/ -mindepth 1 \( -name out -o -name m
 LIBRARY_SOURCES := crates.txt $(shell find $(addprefix crates/,b3_core b3_hash b3_c) -mindepth 1 \
     \( -name out -o -name must-fail \) -prune -o -print)
 
-.PHONY: all install uninstall lib install-lib lib-test check test compare faults refused soak bench audit cheat clean force
+.PHONY: all install uninstall lib install-lib lib-test check test compare faults refused soak bench imports audit cheat clean force
 
 all: b3sum
 
@@ -104,6 +105,9 @@ soak: b3sum
 bench: b3sum
 	tools/workers $(FLAGS)
 	tools/bench --write $(FLAGS)
+
+imports: b3sum
+	tools/imports
 
 audit:
 	tools/audit
