@@ -13,6 +13,7 @@
 # `make bench` times it and the installed b3sum, the code on lanes beside the word code, runs of workers, and the library
 # beside the original C code where that is installed, and writes the tables of README.md and docs/BENCH.md and
 # docs/bench.svg. It ends with 1 where a row is above what is wanted.
+# `make imports` compares the names that it imports from the C library with a list.
 # `make audit` compares docs/AUDIT.md with the files that it names, and with what the laws and the contracts cite.
 # `make statements` prints the laws and all that they cite, as one text in reading order.
 # `make cheat EDIT=crates/NAME/must-fail/WRONG.edit` tries one wrong body, which the prover must refuse.
@@ -35,8 +36,8 @@ SOURCES := crates.txt $(shell find crates/*/ -mindepth 1 \( -name out -o -name m
 LIBRARY_SOURCES := crates.txt $(shell find $(addprefix crates/,b3_core b3_hash b3_c) -mindepth 1 \
     \( -name out -o -name must-fail \) -prune -o -print)
 
-.PHONY: all install uninstall lib install-lib lib-test check test compare faults refused soak bench audit statements \
-    cheat clean force
+.PHONY: all install uninstall lib install-lib lib-test check test compare faults refused soak bench imports audit \
+    statements cheat clean force
 
 all: b3sum
 
@@ -108,6 +109,9 @@ soak: b3sum
 bench: b3sum $(if $(shell command -v $(CC) 2>/dev/null),lib)
 	tools/workers $(FLAGS)
 	tools/bench --write $(FLAGS)
+
+imports: b3sum
+	tools/imports
 
 audit:
 	tools/audit
