@@ -1,5 +1,4 @@
--- The shape of the tree, by proof: which spans of chunks are the subtrees of inputs of 2, 3, 5, 6 and 7 chunks, of which
--- the last may be short.
+-- The shape of the tree, by proof: which spans of chunks are the subtrees of inputs of 2, 3, 5, 6 and 7 chunks.
 use Rattle.std.proofs.Common.{◌≡◌, ℕ, suc, ◌+◌, ◌-◌, ◌*◌, ◌^◌, ◌<◌, ◌≤◌, List, length, take, drop, refl, sym, ap, ◌∙◌, arith, drop-drop, length-drop, take-take, take_all}
 use Rattle.std.proofs.Math.Nat.{pow-suc}
 use Rattle.std.proofs.lemmas.List.{drop-take, length-take}
