@@ -22,7 +22,18 @@ use std::process::Abort;
 use std::sync::ledger::{Blank, Ledger};
 use std::test::Fail;
 
-// The bytes of the official test vectors: `i mod 251`.
+// The digests of the official test vectors, of no bytes and of 1,024.
+const DIGEST_OF_0: [u8; 32] = [
+    0xaf, 0x13, 0x49, 0xb9, 0xf5, 0xf9, 0xa1, 0xa6, 0xa0, 0x40, 0x4d, 0xea, 0x36, 0xdc, 0xc9, 0x49,
+    0x9b, 0xcb, 0x25, 0xc9, 0xad, 0xc1, 0x12, 0xb7, 0xcc, 0x9a, 0x93, 0xca, 0xe4, 0x1f, 0x32, 0x62,
+];
+
+const DIGEST_OF_1024: [u8; 32] = [
+    0x42, 0x21, 0x47, 0x39, 0xf0, 0x95, 0xa4, 0x06, 0xf3, 0xfc, 0x83, 0xde, 0xb8, 0x89, 0x74, 0x4a,
+    0xc0, 0x0d, 0xf8, 0x31, 0xc1, 0x0d, 0xaa, 0x55, 0x18, 0x9b, 0x5d, 0x12, 0x1c, 0x85, 0x5a, 0xf7,
+];
+
+// The bytes of these vectors: `i mod 251`.
 fn pattern(alloc: Global, len: usize) -> Result<Vec<u8>, AllocError>
     ensures { IfOk result (λ v. vec_len v ≡ len) }
 {
@@ -84,6 +95,13 @@ fn assert_root<'a, L: Named>(rt: &impl Abort, board: &MemoryBoard<'a, L>, input:
     let root = board.root().expect(rt, "a root");
     assert!(rt; root.kept());
     assert_eq!(rt; root.node(), root_of(rt, input));
+}
+
+// The first bytes of a root's output.
+fn assert_digest(rt: &impl Abort, root: &Root, want: &[u8; 32]) {
+    let block = root.node().block(0);
+    let (digest, _) = block.split_at(32);
+    assert_eq!(rt; digest, want.as_slice());
 }
 
 fn assert_pieces<'a, L: Named>(rt: &impl Abort, board: &MemoryBoard<'a, L>, want: &[(u64, u64)]) {
@@ -237,9 +255,41 @@ fn a_plain_root_is_not_kept(rt: HostRuntime) -> Result<(), Fail> {
     let plain = plan.plain();
     assert!(&rt; !plain.kept());
     assert_eq!(&rt; plain.node(), root_of(&rt, &input));
-    let later = Plan::at(rt.alloc(), &[7], Mode::hash(), 16384, 1)?;
-    let node = later.plain().node();
-    assert_eq!(&rt; (node.t, node.b, node.d), (16384, 1, 3));
+    assert_digest(&rt, &plain, &DIGEST_OF_1024);
+    Ok(())
+}
+
+// The root of a board over a plan of one span.
+fn later_root_on<'a, L: Named>(
+    rt: &impl Abort,
+    alloc: Global,
+    plan: &Plan<'a>,
+    blank: Blank,
+) -> Result<Root, Fail>
+    requires name { blank.name ≡ L.name }
+    requires parts { blank.parts ≡ L.parts }
+    requires whole { L.parts ≡ 128 }
+    requires own { IsPlanOf L.input L.mode L.first plan.now }
+{
+    let (mut board, mut share) = open_board::<L>(alloc, plan, blank)?;
+    assert!(rt; deposit(rt, &mut board, &mut share, plan, 0).is_ok());
+    Ok(board.root().expect(rt, "a root"))
+}
+
+fn later_root(rt: &impl Abort, alloc: Global, plan: &Plan) -> Result<Root, Fail> {
+    later_root_on::<Brand>(rt, alloc, plan, Blank::new(128))
+}
+
+// Its node has the chunk's number and length, and the flags of a chunk's only block.
+#[test]
+fn a_root_of_a_later_chunk(rt: HostRuntime) -> Result<(), Fail> {
+    let plan = Plan::at(rt.alloc(), &[7], Mode::hash(), 16_384, 1)?;
+    let kept = later_root(&rt, rt.alloc(), &plan)?;
+    assert!(&rt; kept.kept());
+    for root in [kept, plan.plain()] {
+        let node = root.node();
+        assert_eq!(&rt; (node.t, node.b, node.d), (16_384, 1, 3));
+    }
     Ok(())
 }
 

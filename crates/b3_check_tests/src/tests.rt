@@ -4,6 +4,7 @@ mod at_once;
 mod checks;
 mod contents;
 mod ended;
+mod failing;
 mod faults;
 mod gathered;
 mod lengths;

@@ -136,6 +136,26 @@ fn share_calls<'a, L: Named>(
     share.split()
 }
 
+// The readers of a plan of three chunks, of what is done, of a board with nothing left to do, and of its root.
+fn reader_calls<'a, L: Named>(rt: &impl Abort, plan: &Plan<'a>, board: &MemoryBoard<'a, L>) {
+    assert_eq!(rt;
+        (plan.input().len(), plan.first(), plan.len()),
+        (3000, 0, 3)
+    );
+    assert!(rt; plan.mode() == Mode::hash() && plan.span(3).is_none());
+    let done = plan.job(2).expect(rt, "a job").work();
+    assert!(rt; done.span() == span(2, 1) && done.node().d == 2);
+    assert!(rt; board.is_over(plan) && board.input().len() == 3000);
+    assert_eq!(rt;
+        (board.open_spans(), board.deposited(), board.waiting()),
+        (0, 3, 0)
+    );
+    assert!(rt; board.open_span(0).is_none() && board.piece(0) == Some(span(0, 3)));
+    let root = board.root().expect(rt, "a root");
+    assert!(rt; root.kept() && !plan.plain().kept());
+    assert_eq!(rt; plan.plain().node(), root.node());
+}
+
 // A worker goes through the spans, its seat is joined, and the claims are closed. How many chunks it deposited, and how
 // many claims there were.
 fn claim_calls<'a, L: Named, R: Wait + Abort>(
@@ -149,7 +169,7 @@ fn claim_calls<'a, L: Named, R: Wait + Abort>(
     requires count { claims.count ≡ length plan.now.spans }
     requires own { IsSeatOf claims seat }
 {
-    assert!(rt; seat.parts() == 128);
+    assert!(rt; seat.parts() == 128 && seat.claimed().is_empty());
     let other = claims.split(&mut seat);
     let ended = worker(rt, plan, board, &claims, other, theirs, 1, &OpenGate);
     claims.join(&mut seat, ended.seat);
@@ -185,11 +205,9 @@ fn growths_on<'a, L: Named, R: Wait + Abort>(
     let deposited = claim_calls(rt, plan, &board, claims, seat, theirs);
     assert_eq!(rt; deposited, (2, plan.len()));
     let mut board = board.into_inner();
-    assert!(rt; board.is_over(plan));
     assert_eq!(rt; default_grain(3), 16);
     assert_eq!(rt; (sweep(&mut board, &mut share), share.chunks()), (0, 1));
-    let root = board.root().expect(rt, "a root");
-    assert_eq!(rt; plan.plain().node(), root.node());
+    reader_calls(rt, plan, &board);
     last_growth(alloc)
 }
 

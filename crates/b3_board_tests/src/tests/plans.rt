@@ -64,8 +64,8 @@ fn grains_that_are_taken_and_refused(rt: HostRuntime) -> Result<(), Fail> {
     }
     let plan = by_grain(alloc, &input, 1024)?;
     assert_eq!(&rt;
-        (plan.span(0), plan.span(1)),
-        (Some(span(0, 1024)), Some(span(1024, 1)))
+        (plan.span(0), plan.span(1), plan.span(2)),
+        (Some(span(0, 1024)), Some(span(1024, 1)), None)
     );
     let none = by_grain(alloc, &[], 1)?;
     assert_eq!(&rt; (none.len(), none.span(0)), (1, Some(span(0, 1))));

@@ -6,7 +6,7 @@ ghost use Rattle.b3_board.specs.Plans.{IsPlanOf};
 use super::meeting::{AllAtOnce, Yielding};
 use super::memory::{by_cutting, by_grain, last_growth};
 use super::random::{Chance, cut_at_random};
-use super::{assert_root, open_board, pattern};
+use super::{DIGEST_OF_0, assert_digest, assert_root, open_board, pattern};
 use b3_board::{
     BoardFault, Claims, Ended, Gate, MemoryBoard, Named, OpenGate, Plan, Report, Share,
     hash_parallel, worker,
@@ -68,13 +68,9 @@ pub(super) fn assert_report(
 fn nothing_and_64_workers(rt: HostRuntime) -> Result<(), Fail> {
     let plan = by_grain(rt.alloc(), &[], 1)?;
     let report = run(&rt, rt.alloc(), &plan, 64, &OpenGate)?;
-    assert_report(&rt, &report, plan.input(), 0, plan.len(), 64);
+    assert_report(&rt, &report, plan.input(), 0, 1, 64);
     assert_eq!(&rt; report.claimed.as_slice(), [0u32].as_slice());
-    let output = report.root.node().block(0);
-    assert_eq!(&rt;
-        (output[0], output[1], output[30], output[31]),
-        (0xaf, 0x13, 0x32, 0x62)
-    );
+    assert_digest(&rt, &report.root, &DIGEST_OF_0);
     for workers in [0u32, 65] {
         assert_eq!(&rt;
             run(&rt, rt.alloc(), &plan, workers, &OpenGate).err(),

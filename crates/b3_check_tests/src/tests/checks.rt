@@ -1,11 +1,11 @@
 // Runs that check lists.
 
-use crate::tests::contents::pattern;
 use crate::tests::ended::{check, check_files};
-use crate::tests::recording::{RecordedFiles, file_of};
+use crate::tests::failing::EndlessFile;
 use crate::tests::{EMPTY, check_options, joined, lines_tally, tally};
 use b3_check::{Answer, RunFault, Tally, Verdict, judge};
 use b3_lines::read_line;
+use std::alloc::Global;
 use std::test::Fail;
 
 // A list of a right line that ends in CR LF, a wrong one, and one that is cut off.
@@ -143,31 +143,43 @@ fn lists_one_after_the_other(rt: HostRuntime) -> Result<(), Fail> {
     Ok(())
 }
 
+// What is said of a list of so many line feeds.
+fn empty_lines(alloc: Global, count: u64) -> Result<String, Fail> {
+    let mut text = String::new(alloc);
+    for number in 1..=count {
+        let complaint = format!(in alloc; "b3sum: line {number}: empty line\n")?;
+        text.push_str(complaint.as_str())?;
+    }
+    let warning = format!(in alloc; "b3sum: WARNING: {count} computed checksums did NOT match\n")?;
+    text.push_str(warning.as_str())?;
+    Ok(text)
+}
+
 #[test]
 fn a_list_may_have_so_many_bytes(rt: HostRuntime) -> Result<(), Fail> {
-    let feeds = vec![in rt.alloc(); b'\n'; 101]?;
-    for (len, expected) in [
-        (100usize, Ok(lines_tally(0, 0, 0, 100))),
-        (101, Err(RunFault::EndlessInput)),
-    ] {
-        let files = [("l", &feeds[..len.min(feeds.len())])];
-        let ended = check_files(&rt, rt.alloc(), &files, &["l"], &check_options(false, 100))?;
-        assert_eq!(&rt; ended.answer, expected, "{len} bytes");
-        assert_eq!(&rt; ended.err.is_empty(), len == 101, "{len} bytes");
-        assert!(&rt; ended.out.is_empty(), "{len} bytes");
-    }
+    let alloc = rt.alloc();
+    let feeds = vec![in alloc; b'\n'; 101]?;
+    let (hundred, _) = feeds.split_at(100);
+    let asked = check_options(false, 100);
+    let ended = check_files(&rt, alloc, &[("l", hundred)], &["l"], &asked)?;
+    let counts = Ok(lines_tally(0, 0, 0, 100));
+    let said = empty_lines(alloc, 100)?;
+    ended.assert(&rt, "100 bytes", counts, b"", said.as_bytes());
+    let ended = check_files(&rt, alloc, &[("l", &feeds)], &["l"], &asked)?;
+    let fault = Err(RunFault::EndlessInput);
+    ended.assert(&rt, "101 bytes", fault, b"", b"");
     Ok(())
 }
 
-// It gives a byte a read, and has more bytes than a file may take reads.
+// It is ended by its reads where it may have more bytes than these give, and else by its bytes.
 #[test]
 fn a_list_that_has_no_end(rt: HostRuntime) -> Result<(), Fail> {
-    let alloc = rt.alloc();
-    let files = [file_of(alloc, "l", pattern(alloc, 2_000)?.as_slice())?];
-    let mut shelf = RecordedFiles::new(alloc, &files, 1, u64::MAX);
-    let asked = check_options(false, 10_000);
-    let ended = check(&rt, alloc, &mut shelf, &["l"], &asked)?;
-    ended.assert(&rt, "2,000 reads", Err(RunFault::EndlessInput), b"", b"");
+    for largest in [10_000, 100] {
+        let mut shelf = EndlessFile::new();
+        let asked = check_options(false, largest);
+        let ended = check(&rt, rt.alloc(), &mut shelf, &["l"], &asked)?;
+        ended.assert(&rt, "for ever", Err(RunFault::EndlessInput), b"", b"");
+    }
     Ok(())
 }
 

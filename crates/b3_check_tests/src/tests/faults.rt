@@ -2,9 +2,10 @@
 
 use crate::tests::checks::{THREE_COMPLAINTS, THREE_LINES, THREE_VERDICTS};
 use crate::tests::ended::{Ended, check_files, check_into};
-use crate::tests::recording::{PieceSink, RecordedFiles, file_of};
+use crate::tests::failing::FailingShelf;
+use crate::tests::recording::PieceSink;
 use crate::tests::{EMPTY, ONE_BYTE, check_options, joined, lines_tally, tally};
-use b3_check::{RunFault, Tally};
+use b3_check::{MemoryShelf, RunFault, Tally};
 use std::process::Abort;
 use std::sync::Wait;
 use std::test::Fail;
@@ -20,12 +21,11 @@ fn three_lines<R: AllocGlobal + Abort + Threads + Wait + Sync>(
     err_before: u64,
 ) -> Result<Ended, Fail> {
     let alloc = rt.alloc();
-    let files = [
-        file_of(alloc, "l", THREE_LINES)?,
-        file_of(alloc, "x", b"\0")?,
-        file_of(alloc, "y", b"")?,
-    ];
-    let mut shelf = RecordedFiles::new(alloc, &files, usize::MAX, calls_before);
+    let mut files = MemoryShelf::new(alloc);
+    files.put("l", THREE_LINES)?;
+    files.put("x", b"\0")?;
+    files.put("y", b"")?;
+    let mut shelf = FailingShelf::new(files, calls_before);
     let mut out = PieceSink::new(alloc, 1, out_before);
     let mut err = PieceSink::new(alloc, 1, err_before);
     let lists = [String::from_str(alloc, "l")?];
@@ -101,13 +101,17 @@ fn compare_cut<R: AllocGlobal + Abort + Threads + Wait + Sync>(
 ) -> Result<(), Fail> {
     let files = [("l", list), ("x", b"\0".as_slice()), ("a\\b\nc", b"")];
     let ended = check_files(rt, rt.alloc(), &files, &["l"], &check_options(false, 1_000))?;
-    let is_good = verdict.ends_with("OK\n") || list.is_empty();
-    let err = joined(
-        rt.alloc(),
-        &[complaint, if is_good { "" } else { ONE_WARNING }],
-    )?;
-    assert_eq!(rt; ended.out.as_slice(), verdict.as_bytes());
-    assert_eq!(rt; ended.err.as_slice(), err.as_bytes());
+    let (counts, warning) = match (verdict, complaint) {
+        ("", "") => (tally(0, 0, 0), ""),
+        ("", _) => (lines_tally(0, 0, 0, 1), ONE_WARNING),
+        (verdict, _) if verdict.ends_with("OK\n") => (tally(1, 0, 0), ""),
+        _ => (lines_tally(0, 0, 1, 0), ONE_WARNING),
+    };
+    let err = joined(rt.alloc(), &[complaint, warning])?;
+    let row = "a line that is cut off";
+    ended.assert(rt, row, Ok(counts), verdict.as_bytes(), err.as_bytes());
+    let status = if warning.is_empty() { 0 } else { 1 };
+    assert_eq!(rt; counts.status(), status);
     Ok(())
 }
 

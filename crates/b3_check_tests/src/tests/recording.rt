@@ -98,8 +98,8 @@ impl<'f> RecordedFiles<'f> {
     }
 }
 
-// Whether this is the call that fails, and how many calls come before that.
-fn is_at_fault(calls_before: &mut u64) -> bool {
+/// Whether this is the call that fails, and how many calls come before that.
+pub fn is_at_fault(calls_before: &mut u64) -> bool {
     let is_this = *calls_before == 0;
     *calls_before = calls_before.wrapping_sub(1);
     is_this

@@ -2,6 +2,7 @@
 
 use crate::tests::contents::pattern;
 use crate::tests::ended::{Ended, sum, sum_files, sum_into};
+use crate::tests::failing::EndlessFile;
 use crate::tests::recording::{PieceSink, RecordedFiles, file_of};
 use crate::tests::{EMPTY, KEY, KEYED_EMPTY, joined, options, tally};
 use b3_check::{Form, KeyChoice, RunFault};
@@ -217,6 +218,14 @@ fn a_content_and_its_last_read(rt: HostRuntime) -> Result<(), Fail> {
             ended.assert(&rt, "100 bytes", Err(RunFault::EndlessInput), b"", b"");
         }
     }
+    Ok(())
+}
+
+#[test]
+fn a_content_that_has_no_end(rt: HostRuntime) -> Result<(), Fail> {
+    let mut shelf = EndlessFile::new();
+    let ended = sum(&rt, rt.alloc(), &mut shelf, &["-"], &options(100, 1_000))?;
+    ended.assert(&rt, "for ever", Err(RunFault::EndlessInput), b"", b"");
     Ok(())
 }
 

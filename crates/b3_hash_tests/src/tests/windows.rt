@@ -6,12 +6,17 @@ use super::{
     DIGEST_OF_0, DIGEST_OF_1024, DIGEST_OF_1025, assert_digest, assert_tree, digest_of, pattern,
     update,
 };
-use b3_core::{Mode, top};
+use b3_core::{Mode, parent_node, top};
 use b3_hash::{Hasher, TooLong, WindowFault, hash};
 use std::process::Abort;
 use std::test::Fail;
 
-// The digests of 2^24 bytes of the pattern, and of one more, by another implementation, the installed b3sum.
+// The digests of 2^24 bytes of the pattern, of one less and one more, by another implementation: the installed b3sum.
+const DIGEST_OF_16_MIB_LESS_1: [u8; 32] = [
+    0x39, 0x7e, 0x52, 0x4e, 0xbb, 0x06, 0x25, 0xe4, 0x32, 0x2c, 0x06, 0x50, 0x87, 0x80, 0xab, 0x35,
+    0xdb, 0x71, 0x6b, 0x71, 0x64, 0x11, 0x48, 0x32, 0x7b, 0x61, 0xdc, 0x57, 0x39, 0x6e, 0x03, 0x5c,
+];
+
 const DIGEST_OF_16_MIB: [u8; 32] = [
     0x86, 0x9b, 0x12, 0x92, 0xc8, 0xbe, 0xd5, 0xbd, 0xb2, 0xe0, 0x07, 0x5e, 0x0c, 0x50, 0xcc, 0xf8,
     0xb2, 0x4b, 0x33, 0xa0, 0xf8, 0x10, 0x71, 0xc8, 0x62, 0x06, 0xbd, 0x8f, 0xdb, 0x26, 0x95, 0x79,
@@ -46,7 +51,7 @@ fn a_window_of_one_chunk_stays_open(rt: HostRuntime) -> Result<(), Fail> {
     Ok(())
 }
 
-// Alone, and followed by one byte more.
+// Alone, and followed by one byte more: the root is then the parent of both.
 #[test]
 fn a_window_of_16_mebibytes(rt: HostRuntime) -> Result<(), Fail> {
     let all = pattern(rt.alloc(), 16_777_217)?;
@@ -57,11 +62,24 @@ fn a_window_of_16_mebibytes(rt: HostRuntime) -> Result<(), Fail> {
     assert_digest(&rt, &hasher, &DIGEST_OF_16_MIB, "the window");
     let len = hasher.len();
     assert!(rt; len % 1024 == 0);
-    let last = hasher.finish_with(top(&Mode::hash(), 16_384, byte));
+    let byte_node = top(&Mode::hash(), 16_384, byte);
+    let last = hasher.finish_with(byte_node);
     assert_eq!(rt; digest_of(&rt, last), DIGEST_OF_16_MIB_AND_1);
+    let parent = parent_node(&Mode::hash(), &node.chaining(), &byte_node.chaining());
+    assert_eq!(rt; top(&Mode::hash(), 0, &all), parent);
     update(&rt, &mut hasher, byte);
     assert_digest(&rt, &hasher, &DIGEST_OF_16_MIB_AND_1, "and then 1");
     assert_eq!(rt; hash(&all), DIGEST_OF_16_MIB_AND_1);
+    Ok(())
+}
+
+// A window, and one byte less.
+#[test]
+fn hashes_of_16_mebibytes(rt: HostRuntime) -> Result<(), Fail> {
+    let window = pattern(rt.alloc(), 16_777_216)?;
+    assert_eq!(rt; hash(&window), DIGEST_OF_16_MIB);
+    let (less, _) = window.split_at(16_777_215);
+    assert_eq!(rt; hash(less), DIGEST_OF_16_MIB_LESS_1);
     Ok(())
 }
 

@@ -127,7 +127,7 @@ fn each_byte_after_a_backslash(rt: HostRuntime) -> Result<(), Fail> {
 #[test]
 fn lines_that_are_refused(rt: HostRuntime) -> Result<(), Fail> {
     let alloc = rt.alloc();
-    let rows: [(&[u8], &[u8], LineFault); 10] = [
+    let rows: [(&[u8], &[u8], LineFault); 11] = [
         (b"", b" ", LineFault::Short),
         (b"\\", b" ", LineFault::Short),
         (b"", b"  ", LineFault::NoName),
@@ -135,6 +135,7 @@ fn lines_that_are_refused(rt: HostRuntime) -> Result<(), Fail> {
         (b"", b"  \r", LineFault::NoName),
         (b"", b" xy", LineFault::NoSpaces),
         (b"g", b"  x", LineFault::NotDigits),
+        (b"\\", b"  a\\q", LineFault::BadEscape),
         (b"\\", b"  \\q\0", LineFault::BadEscape),
         (b"", b"  x\0", LineFault::BadCharacter),
         (b"", b"  x\xEF\xBF\xBDy", LineFault::BadCharacter),

@@ -1,0 +1,12 @@
+use Rattle.b3_board.specs.Spans.{in_memory}
+use Rattle.b3_board_tests.proofs.tests.later_root.Given as goal
+
+abbrev pub ghosts-later_root_on-L-Named : goal.ghosts-later_root_on-L-Named
+ghosts-later_root_on-L-Named g a = record {
+  input = in_memory a.plan.now.input;
+  mode = a.plan.now.mode;
+  first = a.plan.now.first;
+}
+
+abbrev pub ghosts-later_root_on-L-Ledger : goal.ghosts-later_root_on-L-Ledger
+ghosts-later_root_on-L-Ledger g a = record { name = a.blank.name; parts = a.blank.parts }
