@@ -1,14 +1,17 @@
 -- What a call of the program does, from its words on.
-use Rattle.std.specs.Prelude.{◌≡◌, ◌⊎◌, ◌^◌, ◌≤◌, ℕ, List, [], ◌∷◌, Bool, Option, None, Some, codes, length, map, string_bytes}
+use Rattle.std.specs.Prelude.{◌≡◌, ◌⊎◌, ◌^◌, ◌≤◌, ℕ, List, [], ◌∷◌, All, Bool, Option, None, Some, Result, MatchResult, codes, length, map, string_bytes}
 use Rattle.b3_check.specs.declared.fault.RunFault.{RunFault}
 use Rattle.b3_check.specs.declared.options.Form.TheVariants.{Raw}
 use Rattle.b3_check.specs.declared.options.Limits.{Limits}
 use Rattle.b3_check.specs.declared.tally.Tally.{Tally}
 use Rattle.b3_check.specs.Checks.{check_script}
+use Rattle.b3_check.specs.Contents.{Contents}
 use Rattle.b3_check.specs.Faults.{fault_text}
+use Rattle.b3_check.specs.Laws.{ChecksRightly, ListIsVerified, SumsRightly, WritesAll}
 use Rattle.b3_check.specs.Options.{CanCheck, CanRun, check_limits, limits_of}
 use Rattle.b3_check.specs.Runs.{Ran, RanSurely, Scene, Sheet, Stopped}
 use Rattle.b3_check.specs.Scripts.{Script}
+use Rattle.b3_check.specs.Sinks.{GainsBeginning}
 use Rattle.b3_check.specs.Sums.{sum_script}
 use Rattle.b3_check.specs.Tallies.{status_of}
 use Rattle.b3_program.specs.Said.{IsSaid, line_of}
@@ -78,3 +81,27 @@ EndsAs (Some refusal) task = EndsRefused refusal
 
 abbrev pub Ends : Words → Scene → Scene → ℕ → Type 0
 Ends words = EndsAs (refusal_for words) (task_for words)
+
+-- ---- over a shelf that tells its contents, in a user's words
+
+-- a task writes the right line of each name or a complaint, or the right verdict on each line
+abbrev pub DoesRightly : Contents → Task → Option (List ℕ) → Option (List ℕ) → Option (List ℕ) → Option (List ℕ)
+    → Result Tally RunFault → Type 0
+DoesRightly contents (Sum options files) = SumsRightly contents options (names_of (map string_bytes files.items))
+DoesRightly contents (Check options files) = ChecksRightly contents options (names_of (map string_bytes files.items))
+
+-- it does, after a fault its line is said, and the status is that of the tally, or 1
+pub record EndsRightly (contents : Contents) (task : Task) (out_old out_new err_old err_new : Option (List ℕ))
+    (status : ℕ) : Type 0 where
+  pub result : Result Tally RunFault
+  pub err : Option (List ℕ)
+  pub right : DoesRightly contents task out_old out_new err_old err result
+  pub ends : MatchResult result (λ tally. (err_new ≡ err) × (status ≡ status_of tally))
+      (λ fault. GainsBeginning err err_new (line_of (fault_text fault)) × (status ≡ 1))
+
+-- each name has its line, or each line of each list is verified
+abbrev pub IsDone : Contents → Task → Option (List ℕ) → Option (List ℕ) → Option (List ℕ) → Option (List ℕ) → Type 0
+IsDone contents (Sum options files) out_old out_new err_old err_new =
+    WritesAll contents options (names_of (map string_bytes files.items)) out_old out_new err_old err_new
+IsDone contents (Check options files) out_old out_new err_old err_new =
+    All (ListIsVerified contents options) (names_of (map string_bytes files.items))

@@ -1,6 +1,9 @@
-ghost use Rattle.std.specs.Prelude.{◌≡◌, ◌+◌, ◌^◌, ◌<◌, ◌≤◌, IfOk, IfErr, map, string_bytes};
+ghost use Rattle.std.specs.Prelude.{◌≡◌, ◌+◌, ◌^◌, ◌<◌, ◌≤◌, None, Some, IfOk, IfErr, map, string_bytes};
+ghost use Rattle.b3_check.specs.Contents.{Contents};
 ghost use Rattle.b3_check.specs.Runs.{Ran, RanSurely, Stopped, scene};
-ghost use Rattle.b3_program.specs.Programs.{CanDo, DoesTask, Ends, limits_for, names_of, script_of};
+ghost use Rattle.b3_program.specs.Programs.{CanDo, DoesTask, Ends, EndsRightly, IsDone, limits_for, names_of, script_of};
+ghost use Rattle.b3_program.specs.Tasks.{task_for};
+ghost use Rattle.b3_program.specs.Usages.{refusal_for};
 
 use crate::say::say_line;
 use crate::stop::{FAILURE, USAGE};
@@ -25,9 +28,19 @@ pub fn run_words<
     requires shelf_failures { S.failures shelf.old < 2 ^ 63 }
     requires out_failures { O.failures out.old < 2 ^ 63 }
     requires err_failures { E.failures err.old < 2 ^ 63 }
-    ensures { Ends words
+    ensures ends { Ends words
         (scene S.Shelf O.Sink E.Sink shelf.old out.old err.old)
         (scene S.Shelf O.Sink E.Sink shelf.new out.new err.new) result }
+
+    // Over a shelf that tells its contents, whatever fails: each name has the line of its content's digest or a
+    // complaint in its place, or each line of each list the right verdict; at a fault a beginning of that.
+    ensures right { (contents : Contents) → S.told shelf.old ≡ Some contents → refusal_for words ≡ None
+        → EndsRightly contents (task_for words)
+        (O.held out.old) (O.held out.new) (E.held err.old) (E.held err.new) result }
+
+    // Where the status is 0 each name has its line, or each line of each list is verified.
+    ensures done { (contents : Contents) → S.told shelf.old ≡ Some contents → result ≡ 0
+        → IsDone contents (task_for words) (O.held out.old) (O.held out.new) (E.held err.old) (E.held err.new) }
 {
     match settle(words) {
         Ok(task) => run_task(rt, alloc, shelf, task, out, err, gate),

@@ -1,4 +1,4 @@
-use Rattle.std.proofs.Common.{◌≡◌, ◌≢◌, ℕ, suc, ◌^◌, ◌≤◌, ◌&&◌, ◌==◌, min, nat_lt, Bool, true, false, if◌then◌else◌, List, [], ◌∷◌, length, map, Option, None, Some, unwrap_or, refl, sym, ap, ◌∙◌, arith}
+use Rattle.std.proofs.Common.{◌≡◌, ◌≢◌, ℕ, suc, ◌^◌, ◌≤◌, ◌&&◌, ◌==◌, min, nat_lt, Bool, true, false, if◌then◌else◌, List, [], ◌∷◌, length, map, Option, None, Some, unwrap_or, refl, sym, ap, ◌∙◌, arith, rules}
 use Rattle.std.specs.Global.{Global}
 use Rattle.std.specs.Prelude.{String, string_bytes}
 use Rattle.std.proofs.lemmas.Bool.{cond_both, eqb-false, ltb-false}
@@ -7,6 +7,7 @@ use Rattle.b3_check.specs.declared.options.Form.TheVariants.{Named, Bare, Raw, T
 use Rattle.b3_program.specs.Programs.{CanDo, names_of}
 use Rattle.b3_program.specs.Tasks.{check_options, sum_options, task_for, workers_of}
 use Rattle.b3_program.specs.declared.task.Task.TheVariants.{Sum, Check}
+use Rattle.b3_program.proofs.RightLemmas.{EndsRightly-from_done, IsDone-from_done}
 use Rattle.b3_program.proofs.Settled.{few_from_none, in_output_from_none}
 use Rattle.b3_program.proofs.run.run_words.Goals as goal
 
@@ -66,11 +67,29 @@ run_task-requires-clause-task g c = λ _ _.
     )) in
     rw c.in-Ok.ensures.task.1 can
 
-pub returns-in-Err : goal.returns-in-Err
-returns-in-Err g c =
+pub returns-in-Err-clause-ends : goal.returns-in-Err-clause-ends
+returns-in-Err-clause-ends g c =
     rw c.in-Err.ensures.usage (record {
       whole = c.say_line.result;
       said = rw c.text.ensures at c.say_line.ensures;
       kept = refl;
       status_is = refl;
     })
+
+pub returns-in-Err-clause-right : goal.returns-in-Err-clause-right
+returns-in-Err-clause-right g c contents told none = absurd (cc (sym none ∙ c.in-Err.ensures.usage))
+
+pub returns-in-Err-clause-done : goal.returns-in-Err-clause-done
+returns-in-Err-clause-done g c contents told passed = let two : 2 ≡ 0 = passed in absurd (omega (arith, two))
+
+pub returns-in-Ok-clause-right : goal.returns-in-Ok-clause-right
+returns-in-Ok-clause-right g c contents told none =
+    let done = rw c.in-Ok.ensures.task.1 at c.run_task.ensures in
+    let right = EndsRightly-from_done contents (task_for c.args.words) _ _ c.run_task.result told done in
+    search (rules, right)
+
+pub returns-in-Ok-clause-done : goal.returns-in-Ok-clause-done
+returns-in-Ok-clause-done g c contents told passed =
+    let done = rw c.in-Ok.ensures.task.1 at c.run_task.ensures in
+    let all = IsDone-from_done contents (task_for c.args.words) _ _ c.run_task.result told done passed in
+    search (rules, all)
