@@ -1,6 +1,10 @@
-// The shelf of real files, what it forwards to, and the sinks over writers.
+// The shelf of real files, what it forwards to, the sinks over writers, and files in memory.
 
+mod fakes;
 mod files;
+mod in_memory;
 mod inputs;
+mod orders;
 mod outputs;
 mod real_disk;
+mod troubles;

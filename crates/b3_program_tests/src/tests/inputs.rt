@@ -1,44 +1,11 @@
 // The input of a shelf of real files.
 
-use super::files::{Paths, assert_at};
-use b3_check::{CannotRead, NoContent, Shelf};
-use b3_program::{FileShelf, InputPaths, MemoryFile, RealDisk, RealInput};
-use std::io::{self, ErrorKind, Read};
+use super::fakes::{FakeFiles, Reads, SharedInput, System};
+use super::files::assert_at;
+use b3_check::{NoContent, Shelf};
+use b3_program::{FileShelf, INPUT_PATHS, InputPaths, MemoryFile, NamedFile, RealDisk, RealInput};
 use std::process::Abort;
 use std::sync::atomic::{AtomicU64, Ordering};
-
-// An input of which each copy reads on where another ended, and which is interrupted before each call that it lets
-// through.
-#[derive(Clone, Copy)]
-struct SharedInput<'a> {
-    content: &'a [u8],
-    offset: &'a AtomicU64,
-    calls: &'a AtomicU64,
-}
-
-impl Read for SharedInput<'_> {
-    fn read(&mut self, buf: &mut [u8]) -> io::Result<usize> {
-        if self.calls.fetch_add(1, Ordering::SeqCst) % 2 == 0 {
-            return Err(io::Error::from(ErrorKind::Interrupted));
-        }
-        let start = self.offset.load(Ordering::SeqCst);
-        let rest = &self.content[(start as usize).min(self.content.len())..];
-        let count = rest.len().min(buf.len());
-        buf[..count].copy_from_slice(&rest[..count]);
-        self.offset.fetch_add(count as u64, Ordering::SeqCst);
-        Ok(count)
-    }
-}
-
-// An input that is interrupted at every call.
-#[derive(Clone, Copy)]
-struct AlwaysInterrupted;
-
-impl Read for AlwaysInterrupted {
-    fn read(&mut self, _buf: &mut [u8]) -> io::Result<usize> {
-        Err(io::Error::from(ErrorKind::Interrupted))
-    }
-}
 
 #[test]
 fn the_input_is_begun_once_and_gives_its_bytes(rt: HostRuntime) {
@@ -62,26 +29,40 @@ pub const NOT_SHOWN: InputPaths<'static> = InputPaths {
     position: "another",
 };
 
-const SHOWN: InputPaths<'static> = InputPaths {
+pub const SHOWN: InputPaths<'static> = InputPaths {
     file: "input",
     position: "position",
 };
 
+// The paths by which `proc(5)` of Linux shows standard input, which is descriptor 0.
+#[test]
+fn the_input_is_looked_up_by_its_descriptor(rt: HostRuntime) {
+    assert_eq!(rt; INPUT_PATHS.file, "/proc/self/fd/0");
+    assert_eq!(rt; INPUT_PATHS.position, "/proc/self/fdinfo/0");
+}
+
+// What the system shows of an input that stands at the fourth byte of a file.
+pub const INPUT_AT_3: [NamedFile<'static>; 2] = [
+    NamedFile {
+        name: "input",
+        content: b"0123456789",
+    },
+    NamedFile {
+        name: "position",
+        content: b"pos:\t3\nflags:\t0100000\n",
+    },
+];
+
 // An input that is a plain file is read at offsets from its position on, which is at the end afterwards.
 #[test]
 fn an_input_that_is_a_plain_file_is_read_at_offsets(rt: HostRuntime) {
-    let content = b"0123456789";
-    let files = Paths {
-        path: "input",
-        content,
-        other_path: "position",
-        other: b"pos:\t3\nflags:\t0100000\n",
-    };
+    let system = System::new(&INPUT_AT_3, Reads::bytewise(1));
+    let files = FakeFiles::new(&rt, &system);
     let offset = AtomicU64::new(3);
     let input = SharedInput {
-        content: content.as_slice(),
+        content: b"0123456789",
         offset: &offset,
-        calls: &AtomicU64::new(0),
+        reads: &Reads::plain(),
     };
     let mut shelf = FileShelf::new(RealDisk::new(&files), RealInput::new(&files, input, SHOWN));
     let mut buffer = [0; 2];
@@ -105,18 +86,21 @@ fn an_input_that_is_a_plain_file_is_read_at_offsets(rt: HostRuntime) {
 
 // What is shown there is not the offset of a plain file: the input is read in order alone.
 fn assert_in_order<'x>(
-    rt: &impl Abort,
-    path: &'x str,
+    rt: &'x impl Abort,
+    name: &'x str,
     content: &'x [u8],
-    other_path: &'x str,
+    other_name: &'x str,
     other: &'x [u8],
 ) {
-    let files = Paths {
-        path,
-        content,
-        other_path,
-        other,
-    };
+    let shown = [
+        NamedFile { name, content },
+        NamedFile {
+            name: other_name,
+            content: other,
+        },
+    ];
+    let system = System::new(&shown, Reads::plain());
+    let files = FakeFiles::new(rt, &system);
     let mut shelf = FileShelf::new(
         RealDisk::new(&files),
         RealInput::new(&files, b"five!".as_slice(), SHOWN),
@@ -137,34 +121,4 @@ fn an_input_of_which_no_offset_is_known_is_read_in_order(rt: HostRuntime) {
     assert_in_order(&rt, "input", b"four", "position", b"offset:\t0\n");
     assert_in_order(&rt, "input", b"four", "another", b"pos:\t0\n");
     assert_in_order(&rt, "another", b"four", "position", b"pos:\t0\n");
-}
-
-#[test]
-fn an_interrupted_read_is_made_again(rt: HostRuntime) {
-    let mut buffer = [0; 8];
-    let mut input = SharedInput {
-        content: b"four",
-        offset: &AtomicU64::new(0),
-        calls: &AtomicU64::new(0),
-    };
-    let first = input.read(&mut buffer);
-    assert!(rt; first.is_err_and(|error| error.kind() == ErrorKind::Interrupted));
-    let _given = input.read(&mut []);
-    let mut shelf = FileShelf::new(RealDisk::new(&rt), RealInput::new(&rt, input, NOT_SHOWN));
-    assert_eq!(rt; shelf.begin("-"), Ok(()));
-    assert_eq!(rt; shelf.read(&mut buffer), Ok(4));
-    assert_eq!(rt; buffer[..4], b"four"[..]);
-    assert_eq!(rt; shelf.read(&mut buffer), Ok(0));
-}
-
-#[test]
-fn a_read_that_is_always_interrupted_fails(rt: HostRuntime) {
-    let mut shelf = FileShelf::new(
-        RealDisk::new(&rt),
-        RealInput::new(&rt, AlwaysInterrupted, NOT_SHOWN),
-    );
-    let mut buffer = [0; 8];
-    assert_eq!(rt; shelf.begin("-"), Ok(()));
-    assert_eq!(rt; shelf.read(&mut buffer), Err(CannotRead));
-    assert_eq!(rt; shelf.read(&mut buffer), Ok(0));
 }

@@ -4,34 +4,31 @@ use b3_check::{Sink, SinkFailed};
 use b3_program::OutputSink;
 use std::io::{self, ErrorKind, Write};
 
-// Is interrupted before each call that it lets through.
+// Is interrupted so often before each call that it lets through.
 #[derive(Drop)]
 struct Interrupted<T> {
     inner: T,
-    is_through: bool,
+    interruptions: u64,
+    left: u64,
 }
 
 impl<T> Interrupted<T> {
-    fn new(inner: T) -> Interrupted<T> {
+    fn new(inner: T, interruptions: u64) -> Interrupted<T> {
         Interrupted {
             inner,
-            is_through: true,
-        }
-    }
-
-    fn interrupt(&mut self) -> io::Result<()> {
-        self.is_through = !self.is_through;
-        if self.is_through {
-            Ok(())
-        } else {
-            Err(io::Error::from(ErrorKind::Interrupted))
+            interruptions,
+            left: interruptions,
         }
     }
 }
 
 impl<T: Write> Write for Interrupted<T> {
     fn write(&mut self, buf: &[u8]) -> io::Result<usize> {
-        self.interrupt()?;
+        if self.left > 0 {
+            self.left -= 1;
+            return Err(io::Error::from(ErrorKind::Interrupted));
+        }
+        self.left = self.interruptions;
         self.inner.write(buf)
     }
 
@@ -40,14 +37,19 @@ impl<T: Write> Write for Interrupted<T> {
     }
 }
 
+// A call is made a thousand times at most.
 #[test]
 fn an_interrupted_write_is_made_again(rt: HostRuntime) {
-    let mut buffer = [0; 8];
-    let first = Interrupted::new(buffer.as_mut_slice()).write(b"four");
-    assert!(rt; first.is_err_and(|error| error.kind() == ErrorKind::Interrupted));
-    let mut sink = OutputSink::new(Interrupted::new(buffer.as_mut_slice()));
-    assert_eq!(rt; sink.write(b"four"), Ok(4));
-    assert_eq!(rt; sink.write(b"more"), Ok(4));
+    for (interruptions, written) in [
+        (1, Ok(4)),
+        (300, Ok(4)),
+        (999, Ok(4)),
+        (1_000, Err(SinkFailed)),
+    ] {
+        let mut buffer = [0; 8];
+        let mut sink = OutputSink::new(Interrupted::new(buffer.as_mut_slice(), interruptions));
+        assert_eq!(rt; sink.write(b"four"), written);
+    }
 }
 
 #[test]
@@ -57,4 +59,14 @@ fn a_writer_that_takes_nothing_fails(rt: HostRuntime) {
     assert_eq!(rt; sink.write(b"four"), Ok(3));
     assert_eq!(rt; sink.write(b""), Ok(0));
     assert_eq!(rt; sink.write(b"r"), Err(SinkFailed));
+}
+
+#[test]
+fn lines_may_wait_where_the_sink_gathers(rt: HostRuntime) {
+    let mut buffer = [0; 3];
+    let sink = OutputSink::new(buffer.as_mut_slice());
+    assert!(rt; !sink.may_wait());
+    let sink = sink.gathering(true);
+    assert!(rt; sink.may_wait());
+    assert!(rt; !sink.gathering(false).may_wait());
 }

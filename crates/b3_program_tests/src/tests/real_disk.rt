@@ -4,7 +4,8 @@ use super::files::{OWN_PROGRAM, own_program};
 use b3_program::{Disk, DiskFile, Input, InputPaths, RealDisk, RealInput, Stream};
 use std::alloc::{AllocError, Allocator};
 use std::fs::File;
-use std::io::{ErrorKind, Read};
+use std::io::{ErrorKind, Read, pipe};
+use std::os::fd::AsRawFd;
 use std::rt::Files;
 use std::test::Fail;
 
@@ -25,23 +26,28 @@ fn a_real_file_is_read_in_order_and_at_offsets(rt: HostRuntime) -> Result<(), Fa
     Ok(())
 }
 
+// The paths by which the system shows an open file of this number.
+fn shown<A: Allocator>(alloc: A, folder: &str, number: u64) -> Result<String<A>, AllocError> {
+    format!(in alloc; "/proc/self/{folder}/{number}")
+}
+
+// The name is asked, and the open file: of a folder, a device and a pipe.
 #[test]
 fn a_plain_file_alone_has_a_length(rt: HostRuntime) -> Result<(), Fail> {
     let disk = RealDisk::new(&rt);
     let len = own_program(&rt)?.len() as u64;
     assert_eq!(rt; disk.plain_len(OWN_PROGRAM), Some(len));
-    for name in ["/", "/dev/null", "a file that is not there"] {
-        assert_eq!(rt; disk.plain_len(name), None, "{name}");
-    }
-    assert_eq!(rt; disk.open("/dev/null")?.plain_len(), None);
+    assert_eq!(rt; disk.plain_len("a file that is not there"), None);
     let missing = disk.open("a file that is not there");
     assert!(rt; missing.is_err_and(|error| error.kind() == ErrorKind::NotFound));
+    let (reader, _writer) = pipe(&rt)?;
+    let number = u64::from(reader.as_raw_fd().unsigned_abs());
+    let shown_pipe = shown(rt.alloc(), "fd", number)?;
+    for name in ["/", "/dev/null", shown_pipe.as_str()] {
+        assert_eq!(rt; disk.plain_len(name), None, "{name}");
+        assert_eq!(rt; disk.open(name)?.plain_len(), None, "{name}");
+    }
     Ok(())
-}
-
-// The paths by which the system shows an open file of this number.
-fn shown<A: Allocator>(alloc: A, folder: &str, number: u64) -> Result<String<A>, AllocError> {
-    format!(in alloc; "/proc/self/{folder}/{number}")
 }
 
 // The number of the file is not known, but no other stands at this offset.

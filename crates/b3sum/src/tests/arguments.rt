@@ -53,6 +53,63 @@ fn arguments_of_any_length_are_read(rt: HostRuntime) -> Result<(), io::Error> {
     Ok(())
 }
 
+// An environment with these arguments.
+#[derive(Drop)]
+struct Texts<'a> {
+    texts: &'a [&'a str],
+}
+
+impl Env for Texts<'_> {
+    fn arg(&self, i: usize, buf: &mut [u8]) -> Result<usize, FillError> {
+        let Some(text) = self.texts.get(i) else {
+            return Err(FillError::NotPresent);
+        };
+        let bytes = text.as_bytes();
+        if bytes.len() > buf.len() {
+            return Err(FillError::TooLong);
+        }
+        buf[..bytes.len()].copy_from_slice(bytes);
+        Ok(bytes.len())
+    }
+
+    fn var(&self, _name: &str, _buf: &mut [u8]) -> Result<usize, FillError> {
+        Err(FillError::NotPresent)
+    }
+
+    fn var_at(&self, _i: usize, _buf: &mut [u8]) -> Result<usize, FillError> {
+        Err(FillError::NotPresent)
+    }
+}
+
+#[test]
+fn arguments_of_any_number_are_read(rt: HostRuntime) -> Result<(), io::Error> {
+    let texts = ["x"; 5_000];
+    for count in [0, 1, 1_000, 1_001, 5_000] {
+        let given = arguments(
+            &Texts {
+                texts: &texts[..count],
+            },
+            rt.alloc(),
+        )?;
+        assert_eq!(&rt; given.len(), count);
+        assert!(&rt; given.iter().all(|text| text.as_str() == "x"), "{count}");
+    }
+    Ok(())
+}
+
+#[test]
+fn arguments_are_read_to_the_character(rt: HostRuntime) -> Result<(), io::Error> {
+    let texts = [
+        "", "a", " a", "a ", " ", "\ta\n", "a\r", "a/", "a//", "./a", "-", "--", "\u{e9}", "A",
+    ];
+    let given = arguments(&Texts { texts: &texts }, rt.alloc())?;
+    assert_eq!(&rt; given.len(), texts.len());
+    for (text, argument) in texts.iter().zip(given.iter()) {
+        assert_eq!(&rt; argument.as_str(), *text);
+    }
+    Ok(())
+}
+
 #[test]
 fn an_argument_that_is_no_text_is_refused(rt: HostRuntime) {
     let given = arguments(&Given { len: 1, last: 0xff }, rt.alloc());

@@ -1,0 +1,200 @@
+// The order of what is said on both outputs: what is said of an item goes out, on both, before what is said of the next.
+
+use b3_board::OpenGate;
+use b3_check::{CheckOptions, Form, KeyChoice, SumOptions, run_check, run_sum};
+use b3_program::{FileShelf, MemoryDisk, MemoryFile, NamedFile, OutputSink};
+use std::alloc::{AllocError, Global};
+use std::cell::RefCell;
+use std::io::{self, ErrorKind, Write};
+use std::test::Fail;
+
+// How the log says which output is written to.
+const OUT: &str = "out> ";
+
+const ERR: &str = "err> ";
+
+/// What two outputs were given, in the order of their writes: a mark where another output is written to, and its text.
+#[derive(Drop)]
+struct Log {
+    text: String,
+    last: &'static str,
+}
+
+impl Log {
+    fn new(alloc: Global) -> Log {
+        Log {
+            text: String::new(alloc),
+            last: "",
+        }
+    }
+
+    // Adds a text to one output.
+    fn add(&mut self, mark: &'static str, text: &str) -> Result<(), AllocError> {
+        if !text.is_empty() && mark != self.last {
+            self.text.push_str(mark)?;
+            self.last = mark;
+        }
+        self.text.push_str(text)
+    }
+
+    // Adds what is said of each item, on the output and on the error output.
+    fn add_items(&mut self, items: &[(&str, &str)]) -> Result<(), AllocError> {
+        for (out, err) in items {
+            self.add(OUT, out)?;
+            self.add(ERR, err)?;
+        }
+        Ok(())
+    }
+}
+
+// One of two outputs.
+#[derive(Drop)]
+struct Output<'a> {
+    mark: &'static str,
+    log: &'a RefCell<Log>,
+}
+
+impl<'a> Output<'a> {
+    fn new(mark: &'static str, log: &'a RefCell<Log>) -> Output<'a> {
+        Output { mark, log }
+    }
+}
+
+impl Write for Output<'_> {
+    fn write(&mut self, buf: &[u8]) -> io::Result<usize> {
+        let (Ok(mut log), Ok(text)) = (self.log.try_borrow_mut(), str::from_utf8(buf)) else {
+            return Err(io::Error::from(ErrorKind::Other));
+        };
+        log.add(self.mark, text)?;
+        Ok(buf.len())
+    }
+
+    fn flush(&mut self) -> io::Result<()> {
+        Ok(())
+    }
+}
+
+fn strings(alloc: Global, names: &[&str]) -> Result<Vec<String>, Fail> {
+    let mut strings = Vec::new(alloc);
+    for name in names {
+        strings.push(String::from_str(alloc, name)?)?;
+    }
+    Ok(strings)
+}
+
+// A file of one byte 00, one without bytes, and a list with lines that are good, short, of a missing name and of
+// another digest.
+const FILES: [NamedFile<'static>; 3] = [
+    NamedFile {
+        name: "a",
+        content: b"\0",
+    },
+    NamedFile {
+        name: "empty",
+        content: b"",
+    },
+    NamedFile {
+        name: "l",
+        content: b"2d3adedff11b61f14c886e35afa036736dcd87a74d27b5c1510225d0f592e213  a\n\
+                   short\n\
+                   2d3adedff11b61f14c886e35afa036736dcd87a74d27b5c1510225d0f592e213  a\n\
+                   2d3adedff11b61f14c886e35afa036736dcd87a74d27b5c1510225d0f592e213  missing\n\
+                   2d3adedff11b61f14c886e35afa036736dcd87a74d27b5c1510225d0f592e213  empty\n\
+                   2d3adedff11b61f14c886e35afa036736dcd87a74d27b5c1510225d0f592e213  a\n",
+    },
+];
+
+const LINE: &str = "2d3adedff11b61f14c886e35afa036736dcd87a74d27b5c1510225d0f592e213  a\n";
+
+const LINE_OF_INPUT: &str = "2d3adedff11b61f14c886e35afa036736dcd87a74d27b5c1510225d0f592e213  -\n";
+
+// Names, and what is said of each.
+const NAMES: [&str; 9] = ["a", "a", "b\u{fffd}", "a", "missing", "a", "", "-", "-"];
+
+const SAID_OF_NAMES: [(&str, &str); 9] = [
+    (LINE, ""),
+    (LINE, ""),
+    ("", "b3sum: b\u{fffd}: bad name\n"),
+    (LINE, ""),
+    ("", "b3sum: missing: cannot read\n"),
+    (LINE, ""),
+    ("", "b3sum: : bad name\n"),
+    (LINE_OF_INPUT, ""),
+    ("", "b3sum: -: cannot read\n"),
+];
+
+// What is said of each line of the list.
+const SAID_OF_LINES: [(&str, &str); 6] = [
+    ("a: OK\n", ""),
+    ("", "b3sum: line 2: short line\n"),
+    ("a: OK\n", ""),
+    ("missing: FAILED (cannot read)\n", ""),
+    ("empty: FAILED\n", ""),
+    ("a: OK\n", ""),
+];
+
+// The lines of names that are hashed beside one another wait for those after them, and a complaint comes in its turn.
+#[test]
+fn lines_and_complaints_of_sums(rt: HostRuntime) -> Result<(), Fail> {
+    let alloc = rt.alloc();
+    let names = strings(alloc, &NAMES)?;
+    let asked = SumOptions {
+        key: KeyChoice::Plain,
+        seek: 0,
+        length: 32,
+        form: Form::Named,
+        workers: 2,
+        turns: 1_000,
+        largest: 1_000,
+    };
+    for is_gathering in [false, true] {
+        let log = RefCell::new(Log::new(alloc));
+        let mut out = OutputSink::new(Output::new(OUT, &log)).gathering(is_gathering);
+        let mut err = OutputSink::new(Output::new(ERR, &log));
+        let mut shelf = FileShelf::new(MemoryDisk::new(&FILES), MemoryFile::new(b"\0"));
+        let answer = run_sum(
+            &rt, alloc, &mut shelf, &names, &mut out, &mut err, &asked, &OpenGate,
+        );
+        assert!(rt; answer.is_ok_and(|tally| tally.ok == 5 && tally.failed == 4));
+        let mut due = Log::new(alloc);
+        due.add_items(&SAID_OF_NAMES)?;
+        let seen = log.into_inner();
+        assert_eq!(rt; seen.text.as_str(), due.text.as_str());
+    }
+    Ok(())
+}
+
+// Verdicts wait for those after them, and a complaint of a line or of a list comes in its turn.
+#[test]
+fn verdicts_and_complaints_of_checks(rt: HostRuntime) -> Result<(), Fail> {
+    let alloc = rt.alloc();
+    let lists = strings(alloc, &["l", "gone", "l"])?;
+    let asked = CheckOptions {
+        quiet: false,
+        ignore_missing: false,
+        status: false,
+        strict: false,
+        warn: false,
+        workers: 2,
+        turns: 1_000,
+        largest: 1_000,
+    };
+    for is_gathering in [false, true] {
+        let log = RefCell::new(Log::new(alloc));
+        let mut out = OutputSink::new(Output::new(OUT, &log)).gathering(is_gathering);
+        let mut err = OutputSink::new(Output::new(ERR, &log));
+        let mut shelf = FileShelf::new(MemoryDisk::new(&FILES), MemoryFile::new(b""));
+        let answer = run_check(
+            &rt, alloc, &mut shelf, &lists, &mut out, &mut err, &asked, &OpenGate,
+        );
+        assert!(rt; answer.is_ok());
+        let mut due = Log::new(alloc);
+        due.add_items(&SAID_OF_LINES)?;
+        due.add(ERR, "b3sum: gone: cannot read\n")?;
+        due.add_items(&SAID_OF_LINES)?;
+        due.add(ERR, "b3sum: WARNING: 6 computed checksums did NOT match\n")?;
+        let seen = log.into_inner();
+        assert_eq!(rt; seen.text.as_str(), due.text.as_str());
+    }
+    Ok(())
+}
