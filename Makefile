@@ -34,7 +34,8 @@ SOURCES := crates.txt $(shell find crates/*/ -mindepth 1 \( -name out -o -name m
 LIBRARY_SOURCES := crates.txt $(shell find $(addprefix crates/,b3_core b3_hash b3_c) -mindepth 1 \
     \( -name out -o -name must-fail \) -prune -o -print)
 
-.PHONY: all install uninstall lib install-lib lib-test check test compare faults refused soak bench imports audit cheat clean force
+.PHONY: all install uninstall lib install-lib lib-test check test compare faults refused soak bench imports audit cheat \
+    clean force
 
 all: b3sum
 
