@@ -1,2 +1,4 @@
+pub mod Options
+pub mod Readings
 pub mod Refusals
 pub mod Calls

@@ -1,18 +1,29 @@
 //! A call of the program, from its arguments to its status.
 
-ghost use Rattle.std.specs.Prelude.{◌^◌, ◌<◌, ◌&&◌, IfErr, IsOk, OnOk};
+ghost use Rattle.std.specs.Prelude.{◌^◌, ◌<◌, ◌&&◌, IfErr, IfOk};
 ghost use Rattle.b3_check.specs.Runs.{scene};
 ghost use Rattle.b3_program.specs.Files.{contents_with, rest_of, told_if};
-ghost use Rattle.b3sum.specs.Calls.{CallsWith, EndsCall, IsStopOf};
+ghost use Rattle.b3sum.specs.Calls.{AreWordsOf, CallsWith, EndsCall, IsStopOf, texts_in};
 
 use crate::words::read_words;
 use b3_board::Gate;
 use b3_check::{Shelf, Sink};
 use b3_program::{Disk, FileShelf, Input, OutputSink, Stop, Words, run_words};
 use std::alloc::Global;
-use std::io::{self, Write};
+use std::io::{self, IsTerminal, Write};
+use std::rt::{Stderr, Stdout};
 use std::sync::Wait;
 use std::thread::Threads;
+
+/// Standard output alone: so that no other stream is handed over for it.
+pub trait StandardOutput {}
+
+impl StandardOutput for Stdout {}
+
+/// Standard error alone.
+pub trait StandardError {}
+
+impl StandardError for Stderr {}
 
 /// What a call leaves: its status, and its outputs with what was written.
 #[derive(Drop)]
@@ -27,8 +38,8 @@ pub fn call_with<
     R: Threads + Wait + Sync,
     D: Disk + Drop + Send + Sync,
     I: Input + Send + Sync,
-    O: Write,
-    E: Write,
+    O: Write + IsTerminal + StandardOutput,
+    E: Write + StandardError,
     G: Gate + Sync,
 >(
     rt: &R,
@@ -37,19 +48,20 @@ pub fn call_with<
     disk: D,
     input: I,
     out: O,
-    is_gathering: bool,
     err: E,
     gate: &G,
 ) -> Called<O, E>
 where
     D::File: Send + Sync,
     I::File: Send + Sync,
-    ensures { CallsWith arguments
+    ensures { CallsWith (texts_in arguments)
         (told_if (D.File.tells && I.tells && I.File.tells)
         (contents_with (D.contents disk) (rest_of I.content I.position input)))
         (O.contents out) (E.contents err) (O.contents result.out) (E.contents result.err) result.status }
 {
     let mut shelf = FileShelf::new(disk, input);
+    // Over a terminal each line is seen as soon as it is due.
+    let is_gathering = !out.is_terminal();
     let mut out = OutputSink::new(out).gathering(is_gathering);
     let mut err = OutputSink::new(err);
     let status = run_call(rt, alloc, arguments, &mut shelf, &mut out, &mut err, gate);
@@ -73,7 +85,7 @@ pub fn run_call<R: Threads + Wait + Sync, S: Shelf + Send + Sync, O: Sink, E: Si
     requires shelf_failures { S.failures shelf.old < 2 ^ 63 }
     requires out_failures { O.failures out.old < 2 ^ 63 }
     requires err_failures { E.failures err.old < 2 ^ 63 }
-    ensures { EndsCall arguments
+    ensures { EndsCall (texts_in arguments)
         (scene S.Shelf O.Sink E.Sink shelf.old out.old err.old)
         (scene S.Shelf O.Sink E.Sink shelf.new out.new err.new) result }
 {
@@ -85,8 +97,8 @@ pub fn run_call<R: Threads + Wait + Sync, S: Shelf + Send + Sync, O: Sink, E: Si
 
 // The words of the arguments, of which the first is the program's own name.
 fn read_arguments(alloc: Global, arguments: io::Result<Vec<String>>) -> Result<Words, Stop>
-    ensures given { OnOk result (IsOk arguments) }
-    ensures stop { IfErr result (λ stop. IsStopOf arguments stop) }
+    ensures words { IfOk result (AreWordsOf (texts_in arguments)) }
+    ensures stop { IfErr result (IsStopOf (texts_in arguments)) }
 {
     let arguments = arguments?;
     read_words(alloc, arguments.as_slice())

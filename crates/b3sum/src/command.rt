@@ -1,5 +1,10 @@
 //! The options that the program takes, as `clap` reads them.
 
+ghost use Rattle.std.specs.Prelude.{◌≡◌, IfOk, Some, codes, pos};
+ghost use Rattle.clap.specs.declared.builder.value_parser.ValueParser.TheVariants as vp;
+ghost use Rattle.clap.specs.Words.{app_of, rule_of};
+ghost use Rattle.b3sum.specs.Options as spec;
+
 use b3_check::MAX_OUTPUT_LEN;
 use clap::{Arg, ArgAction, Command, value_parser};
 use std::alloc::{AllocError, Global};
@@ -21,12 +26,9 @@ malformed, a list fails as a whole or the run is cut short, or 2 where the words
 are not taken.";
 
 /// The program's options and files.
-pub fn command<'a>(alloc: Global) -> Result<Command<'a>, AllocError> {
-    // Of a row of files `clap` makes one use of the argument, and not one for each.
-    let files = Arg::new(alloc, "FILE")
-        .action(ArgAction::Append)
-        .num_args(0..)
-        .help("Files to hash, or with --check lists to check");
+pub fn command<'a>(alloc: Global) -> Result<Command<'a>, AllocError>
+    ensures { IfOk result (λ command. app_of command ≡ spec.options) }
+{
     let command = Command::new(alloc, "b3sum")
         .version("0.1.0")
         .about("Writes BLAKE3 checksums, and checks them")
@@ -34,13 +36,25 @@ pub fn command<'a>(alloc: Global) -> Result<Command<'a>, AllocError> {
     let command = with_checking(command, alloc)?;
     let command = with_hashing(command, alloc)?;
     let command = with_output(command, alloc)?;
-    with_running(command, alloc)?.arg(files)
+    with_running(command, alloc)?.arg(files(alloc))
+}
+
+// Of a row of files `clap` makes one use of the argument, and not one for each.
+fn files<'a>(alloc: Global) -> Arg<'a>
+    ensures { rule_of result ≡ spec.files }
+{
+    Arg::new(alloc, "FILE")
+        .action(ArgAction::Append)
+        .num_args(0..)
+        .help("Files to hash, or with --check lists to check")
 }
 
 // The options stand in groups, in the order in which `--help` has them: the prover's work grows with the square of the
 // options that one function adds.
 
-fn with_checking<'a>(command: Command<'a>, alloc: Global) -> Result<Command<'a>, AllocError> {
+fn with_checking<'a>(command: Command<'a>, alloc: Global) -> Result<Command<'a>, AllocError>
+    ensures { IfOk result (λ more. app_of more ≡ spec.with_rules (app_of command.entry) spec.checking) }
+{
     command
         .arg(check(alloc))?
         .arg(quiet(alloc))?
@@ -50,11 +64,15 @@ fn with_checking<'a>(command: Command<'a>, alloc: Global) -> Result<Command<'a>,
         .arg(warn(alloc))
 }
 
-fn with_hashing<'a>(command: Command<'a>, alloc: Global) -> Result<Command<'a>, AllocError> {
+fn with_hashing<'a>(command: Command<'a>, alloc: Global) -> Result<Command<'a>, AllocError>
+    ensures { IfOk result (λ more. app_of more ≡ spec.with_rules (app_of command.entry) spec.hashing) }
+{
     command.arg(keyed(alloc))?.arg(derive_key(alloc))
 }
 
-fn with_output<'a>(command: Command<'a>, alloc: Global) -> Result<Command<'a>, AllocError> {
+fn with_output<'a>(command: Command<'a>, alloc: Global) -> Result<Command<'a>, AllocError>
+    ensures { IfOk result (λ more. app_of more ≡ spec.with_rules (app_of command.entry) spec.output) }
+{
     command
         .arg(length(alloc))?
         .arg(seek(alloc))?
@@ -63,11 +81,15 @@ fn with_output<'a>(command: Command<'a>, alloc: Global) -> Result<Command<'a>, A
         .arg(tag(alloc))
 }
 
-fn with_running<'a>(command: Command<'a>, alloc: Global) -> Result<Command<'a>, AllocError> {
+fn with_running<'a>(command: Command<'a>, alloc: Global) -> Result<Command<'a>, AllocError>
+    ensures { IfOk result (λ more. app_of more ≡ spec.with_rules (app_of command.entry) spec.running) }
+{
     command.arg(num_threads(alloc))?.arg(no_mmap(alloc))
 }
 
-fn check<'a>(alloc: Global) -> Arg<'a> {
+fn check<'a>(alloc: Global) -> Arg<'a>
+    ensures { rule_of result ≡ record (spec.flag (codes "check")) { short = Some 99 } }
+{
     flag(
         alloc,
         "check",
@@ -76,7 +98,9 @@ fn check<'a>(alloc: Global) -> Arg<'a> {
     .short('c')
 }
 
-fn quiet<'a>(alloc: Global) -> Arg<'a> {
+fn quiet<'a>(alloc: Global) -> Arg<'a>
+    ensures { rule_of result ≡ spec.flag (codes "quiet") }
+{
     flag(
         alloc,
         "quiet",
@@ -84,7 +108,9 @@ fn quiet<'a>(alloc: Global) -> Arg<'a> {
     )
 }
 
-fn ignore_missing<'a>(alloc: Global) -> Arg<'a> {
+fn ignore_missing<'a>(alloc: Global) -> Arg<'a>
+    ensures { rule_of result ≡ spec.flag (codes "ignore-missing") }
+{
     flag(
         alloc,
         "ignore-missing",
@@ -92,7 +118,9 @@ fn ignore_missing<'a>(alloc: Global) -> Arg<'a> {
     )
 }
 
-fn status<'a>(alloc: Global) -> Arg<'a> {
+fn status<'a>(alloc: Global) -> Arg<'a>
+    ensures { rule_of result ≡ spec.flag (codes "status") }
+{
     flag(
         alloc,
         "status",
@@ -100,7 +128,9 @@ fn status<'a>(alloc: Global) -> Arg<'a> {
     )
 }
 
-fn strict<'a>(alloc: Global) -> Arg<'a> {
+fn strict<'a>(alloc: Global) -> Arg<'a>
+    ensures { rule_of result ≡ spec.flag (codes "strict") }
+{
     flag(
         alloc,
         "strict",
@@ -108,7 +138,9 @@ fn strict<'a>(alloc: Global) -> Arg<'a> {
     )
 }
 
-fn warn<'a>(alloc: Global) -> Arg<'a> {
+fn warn<'a>(alloc: Global) -> Arg<'a>
+    ensures { rule_of result ≡ record (spec.flag (codes "warn")) { short = Some 119 } }
+{
     flag(
         alloc,
         "warn",
@@ -117,7 +149,9 @@ fn warn<'a>(alloc: Global) -> Arg<'a> {
     .short('w')
 }
 
-fn keyed<'a>(alloc: Global) -> Arg<'a> {
+fn keyed<'a>(alloc: Global) -> Arg<'a>
+    ensures { rule_of result ≡ spec.flag (codes "keyed") }
+{
     flag(
         alloc,
         "keyed",
@@ -125,14 +159,20 @@ fn keyed<'a>(alloc: Global) -> Arg<'a> {
     )
 }
 
-fn derive_key<'a>(alloc: Global) -> Arg<'a> {
+fn derive_key<'a>(alloc: Global) -> Arg<'a>
+    ensures { rule_of result ≡ spec.option (codes "derive-key") }
+{
     Arg::new(alloc, "derive-key")
         .long("derive-key")
         .value_name("CONTEXT")
         .help("Take each file as key material, and derive a key from it under CONTEXT")
 }
 
-fn length<'a>(alloc: Global) -> Arg<'a> {
+fn length<'a>(alloc: Global) -> Arg<'a>
+    ensures { rule_of result ≡ record (spec.number (codes "length") (vp.Signed (pos 0) (pos 1048576))) {
+      short = Some 108;
+    } }
+{
     Arg::new(alloc, "length")
         .short('l')
         .long("length")
@@ -141,7 +181,9 @@ fn length<'a>(alloc: Global) -> Arg<'a> {
         .help("Write N bytes of output, 0 to 1048576; without it 32")
 }
 
-fn seek<'a>(alloc: Global) -> Arg<'a> {
+fn seek<'a>(alloc: Global) -> Arg<'a>
+    ensures { rule_of result ≡ spec.number (codes "seek") (vp.Unsigned 0 18446744073709551615) }
+{
     Arg::new(alloc, "seek")
         .long("seek")
         .value_name("N")
@@ -149,7 +191,9 @@ fn seek<'a>(alloc: Global) -> Arg<'a> {
         .help("Write the output from its byte N on; without it from 0")
 }
 
-fn raw<'a>(alloc: Global) -> Arg<'a> {
+fn raw<'a>(alloc: Global) -> Arg<'a>
+    ensures { rule_of result ≡ spec.flag (codes "raw") }
+{
     flag(
         alloc,
         "raw",
@@ -157,11 +201,15 @@ fn raw<'a>(alloc: Global) -> Arg<'a> {
     )
 }
 
-fn no_names<'a>(alloc: Global) -> Arg<'a> {
+fn no_names<'a>(alloc: Global) -> Arg<'a>
+    ensures { rule_of result ≡ spec.flag (codes "no-names") }
+{
     flag(alloc, "no-names", "Write the digests without names")
 }
 
-fn tag<'a>(alloc: Global) -> Arg<'a> {
+fn tag<'a>(alloc: Global) -> Arg<'a>
+    ensures { rule_of result ≡ spec.flag (codes "tag") }
+{
     flag(
         alloc,
         "tag",
@@ -169,7 +217,9 @@ fn tag<'a>(alloc: Global) -> Arg<'a> {
     )
 }
 
-fn num_threads<'a>(alloc: Global) -> Arg<'a> {
+fn num_threads<'a>(alloc: Global) -> Arg<'a>
+    ensures { rule_of result ≡ spec.number (codes "num-threads") (vp.Signed (pos 0) (pos 65535)) }
+{
     Arg::new(alloc, "num-threads")
         .long("num-threads")
         .value_name("N")
@@ -177,7 +227,9 @@ fn num_threads<'a>(alloc: Global) -> Arg<'a> {
         .help("Hash with N threads, at most 64; 4 where N is 0, and without it")
 }
 
-fn no_mmap<'a>(alloc: Global) -> Arg<'a> {
+fn no_mmap<'a>(alloc: Global) -> Arg<'a>
+    ensures { rule_of result ≡ spec.flag (codes "no-mmap") }
+{
     flag(
         alloc,
         "no-mmap",
@@ -186,7 +238,9 @@ fn no_mmap<'a>(alloc: Global) -> Arg<'a> {
 }
 
 // A flag that is long alone.
-fn flag<'a>(alloc: Global, name: &'a str, help: &'a str) -> Arg<'a> {
+fn flag<'a>(alloc: Global, name: &'a str, help: &'a str) -> Arg<'a>
+    ensures { rule_of result ≡ spec.flag name.entry.now }
+{
     Arg::new(alloc, name)
         .long(name)
         .action(ArgAction::SetTrue)

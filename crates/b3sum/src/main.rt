@@ -15,11 +15,9 @@ use arguments::arguments;
 use b3_board::OpenGate;
 use b3_program::{INPUT_PATHS, RealDisk, RealInput};
 use call::call_with;
-use std::io::IsTerminal;
 use std::process::ExitCode;
 
 fn main(rt: HostRuntime) -> ExitCode {
-    // Over a terminal each line is seen as soon as it is due.
     ExitCode::from(
         call_with(
             &rt,
@@ -28,7 +26,6 @@ fn main(rt: HostRuntime) -> ExitCode {
             RealDisk::new(&rt),
             RealInput::new(&rt, rt.stdin(), INPUT_PATHS),
             rt.stdout(),
-            !rt.stdout().is_terminal(),
             rt.stderr(),
             &OpenGate,
         )

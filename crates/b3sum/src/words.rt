@@ -1,6 +1,12 @@
 // The words of a call, as `clap` reads them.
 
-ghost use Rattle.b3sum.specs.Refusals.{IsStopFor};
+ghost use Rattle.std.specs.Prelude.{◌≡◌, ◌⊎◌, ◌<◌, ◌≤◌, ◌^◌, IfErr, IfOk, codes, length, map, min};
+ghost use Rattle.std.specs.Prelude.{option_map, string_bytes};
+ghost use Rattle.std.specs.Option.{ForSome};
+ghost use Rattle.clap.specs.Words.{first_of, found_of, kind_of, rows_of};
+ghost use Rattle.b3_program.specs.declared.stop.Stop.TheVariants.{Memory, TooManyFiles};
+ghost use Rattle.b3sum.specs.Readings.{AreFrom, AreOf, files_in};
+ghost use Rattle.b3sum.specs.Refusals.{IsStopFor, IsStopOver};
 
 use crate::command::command;
 use b3_check::MAX_OUTPUT_LEN;
@@ -13,23 +19,31 @@ use std::alloc::{AllocError, Global};
 const MAX_FILES: usize = 1 << 30;
 
 /// Reads the words, of which the first is the program's own name.
-pub fn read_words(alloc: Global, words: &[String]) -> Result<Words, Stop> {
-    let matches = match command(alloc)?.try_get_matches_from(words) {
-        Ok(matches) => matches,
-        Err(error) => return Err(stop_for(alloc, &error)),
-    };
-    let files = files(alloc, &matches)?;
+pub fn read_words(alloc: Global, words: &[String]) -> Result<Words, Stop>
+    ensures words { IfOk result (AreFrom (map string_bytes words.now)) }
+    ensures stop { IfErr result (IsStopOver (map string_bytes words.now)) }
+{
+    match command(alloc)?.try_get_matches_from(words) {
+        Ok(matches) => words_of(alloc, &matches),
+        Err(error) => Err(stop_for(alloc, &error)),
+    }
+}
+
+// What the words say that `clap` takes.
+fn words_of(alloc: Global, matches: &ArgMatches) -> Result<Words, Stop>
+    ensures words { IfOk result (AreOf (rows_of (found_of matches.now))) }
+    ensures stop { IfErr result (λ stop. (stop ≡ Memory)
+        ⊎ ((stop ≡ TooManyFiles) × (2 ^ 30 < length (files_in (rows_of (found_of matches.now)))))) }
+{
+    let files = files(alloc, matches)?;
     if files.len() > MAX_FILES {
         return Err(Stop::TooManyFiles);
     }
     Ok(Words {
         check: matches.get_flag("check"),
         keyed: matches.get_flag("keyed"),
-        derive_key: context(alloc, &matches)?,
-        // No greater number passes the parser.
-        length: matches
-            .get_one::<u32>("length")
-            .map(|length| length.min(MAX_OUTPUT_LEN)),
+        derive_key: context(alloc, matches)?,
+        length: within_output(matches.get_one::<u32>("length")),
         seek: matches.get_one::<u64>("seek"),
         raw: matches.get_flag("raw"),
         no_names: matches.get_flag("no-names"),
@@ -44,9 +58,17 @@ pub fn read_words(alloc: Global, words: &[String]) -> Result<Words, Stop> {
     })
 }
 
+// No greater number passes the parser.
+fn within_output(length: Option<u32>) -> Option<u32>
+    ensures bounded { result ≡ option_map (λ n. min n 1048576) length }
+    ensures most { ForSome result (λ n. n ≤ 1048576) }
+{
+    Some(length?.min(MAX_OUTPUT_LEN))
+}
+
 // Why `clap` gives no matches: its own text, if there is memory for it.
 fn stop_for(alloc: Global, error: &clap::Error) -> Stop
-    ensures { IsStopFor error.now result }
+    ensures { IsStopFor (kind_of error.now) result }
 {
     if error.kind() == ErrorKind::OutOfMemory {
         return Stop::Memory;
@@ -72,19 +94,31 @@ fn text_of(alloc: Global, error: &clap::Error) -> Result<String, AllocError> {
     format!(in alloc; "{fault}\n\n{help}")
 }
 
-fn context(alloc: Global, matches: &ArgMatches) -> Result<Option<String>, AllocError> {
+fn context(alloc: Global, matches: &ArgMatches) -> Result<Option<String>, AllocError>
+    ensures { IfOk result (λ context. option_map string_bytes context
+        ≡ first_of (codes "derive-key") (rows_of (found_of matches.now))) }
+{
     match matches.get_str("derive-key") {
         Some(context) => Ok(Some(String::from_str(alloc, context)?)),
         None => Ok(None),
     }
 }
 
-fn files(alloc: Global, matches: &ArgMatches) -> Result<Vec<String>, AllocError> {
-    let mut files = Vec::new(alloc);
-    if let Some(words) = matches.get_strs("FILE") {
-        for word in words {
-            files.push(String::from_str(alloc, word)?)?;
-        }
+fn files(alloc: Global, matches: &ArgMatches) -> Result<Vec<String>, AllocError>
+    ensures { IfOk result (λ files. map string_bytes files.items ≡ files_in (rows_of (found_of matches.now))) }
+{
+    match matches.get_strs("FILE") {
+        Some(words) => strings(alloc, words),
+        None => Ok(Vec::new(alloc)),
     }
-    Ok(files)
+}
+
+fn strings(alloc: Global, words: &[&str]) -> Result<Vec<String>, AllocError>
+    ensures { IfOk result (λ strings. map string_bytes strings.items ≡ map (λ word. word.now) words.now) }
+{
+    let mut strings = Vec::new(alloc);
+    for word in words {
+        strings.push(String::from_str(alloc, word)?)?;
+    }
+    Ok(strings)
 }

@@ -3,4 +3,4 @@ use Rattle.b3sum.proofs.call.run_call.Goals as goal
 
 pub returns-in-Ok : goal.returns-in-Ok
 returns-in-Ok g c =
-    inr (record { words = c.in-Ok.words; given = c.in-Ok.ensures.given; ends = c.run_words.ensures.ends })
+    inr (record { words = c.in-Ok.words; are_given = c.in-Ok.ensures.words; ends = c.run_words.ensures.ends })
