@@ -199,15 +199,18 @@ fn a_key_is_read_from_standard_input(rt: HostRuntime) -> Result<(), AllocError> 
     shelf.put("e", b"")?;
     let line = b"92b2b75604ed3c761f9d6f62392c8a9227ad0ea3f09573e783f1498a4ed60d26  e\n";
     assert_call(&rt, alloc, &mut shelf, &["--keyed", "e"], line, b"", 0)?;
-    let short = b"b3sum: the key is not 32 bytes\n";
-    assert_piped!(
-        &rt,
-        b"31 bytes are no key, nor are 33",
-        &["--keyed", "e"],
-        b"",
-        short,
-        1,
-    )
+    let said = b"b3sum: the key is not 32 bytes\n";
+    for key in [
+        b"whats the Elvish word for frien".as_slice(),
+        b"whats the Elvish word for friends",
+    ] {
+        let mut shelf = MemoryShelf::new(alloc);
+        shelf.put("-", key)?;
+        shelf.put("e", b"")?;
+        assert_call(&rt, alloc, &mut shelf, &["--keyed", "e"], b"", said, 1)?;
+        assert_piped!(&rt, key, &["--keyed", "e"], b"", said, 1)?;
+    }
+    Ok(())
 }
 
 #[test]
