@@ -25,10 +25,10 @@ pub fn sum_one<R: Threads + Wait + Sync>(
     out: &mut MemorySink,
     err: &mut MemorySink,
 ) -> Result<Tally, RunFault>
-    requires name { is_bad_name (string_bytes name) ≡ false }
     requires out_failures { ⟦<MemorySink as Sink>⟧.failures out.old < 2 ^ 63 }
     requires err_failures { ⟦<MemorySink as Sink>⟧.failures err.old < 2 ^ 63 }
-    ensures { IfOk result (λ tally. IsSummed (contents_with (content_among files.now) input.now) (string_bytes name)
+    ensures { is_bad_name (string_bytes name) ≡ false → IfOk result (λ tally.
+        IsSummed (contents_with (content_among files.now) input.now) (string_bytes name)
         (sink_bytes out.old) (sink_bytes out.new) (sink_bytes err.old) (sink_bytes err.new)) }
 {
     let mut shelf = FileShelf::new(MemoryDisk::new(files), MemoryFile::new(input));

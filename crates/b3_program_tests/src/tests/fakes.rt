@@ -61,6 +61,14 @@ impl Reads {
         }
     }
 
+    /// The first read gives what it is asked for, and the second fails.
+    pub fn whole_before_a_fault() -> Reads {
+        Reads {
+            before_fault: 1,
+            ..Reads::plain()
+        }
+    }
+
     /// How many reads there were, those that were interrupted with them.
     pub fn calls(&self) -> u64 {
         self.calls.load(Ordering::SeqCst)
@@ -111,6 +119,14 @@ impl<'a> System<'a> {
             reads,
             open: AtomicU64::new(0),
             overlapping: AtomicU64::new(0),
+        }
+    }
+
+    /// One in which a folder stands under each name by the time that it is opened.
+    pub fn replaced(files: &'a [NamedFile<'a>]) -> System<'a> {
+        System {
+            is_replaced: true,
+            ..System::new(files, Reads::plain())
         }
     }
 

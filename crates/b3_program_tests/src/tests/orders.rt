@@ -123,6 +123,8 @@ const SAID_OF_NAMES: [(&str, &str); 9] = [
     ("", "b3sum: -: cannot read\n"),
 ];
 
+const LISTS: [&str; 3] = ["l", "gone", "l"];
+
 // What is said of each line of the list.
 const SAID_OF_LINES: [(&str, &str); 6] = [
     ("a: OK\n", ""),
@@ -138,6 +140,7 @@ const SAID_OF_LINES: [(&str, &str); 6] = [
 fn lines_and_complaints_of_sums(rt: HostRuntime) -> Result<(), Fail> {
     let alloc = rt.alloc();
     let names = strings(alloc, &NAMES)?;
+    assert!(rt; names.len() <= NAMES.len());
     let asked = SumOptions {
         key: KeyChoice::Plain,
         seek: 0,
@@ -168,7 +171,8 @@ fn lines_and_complaints_of_sums(rt: HostRuntime) -> Result<(), Fail> {
 #[test]
 fn verdicts_and_complaints_of_checks(rt: HostRuntime) -> Result<(), Fail> {
     let alloc = rt.alloc();
-    let lists = strings(alloc, &["l", "gone", "l"])?;
+    let lists = strings(alloc, &LISTS)?;
+    assert!(rt; lists.len() <= LISTS.len());
     let asked = CheckOptions {
         quiet: false,
         ignore_missing: false,

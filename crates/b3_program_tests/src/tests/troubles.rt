@@ -4,8 +4,7 @@ use super::fakes::{FakeFiles, Reads, SharedInput, System};
 use super::files::{DIGEST, counted, digest_of_whole};
 use super::inputs::{INPUT_AT_3, NOT_SHOWN, SHOWN};
 use b3_check::{CannotRead, NoContent, Shelf};
-use b3_program::{Disk, FileShelf, MemoryFile, NamedFile, RealDisk, RealInput};
-use std::io::ErrorKind;
+use b3_program::{FileShelf, MemoryFile, NamedFile, RealDisk, RealInput};
 use std::process::Abort;
 use std::sync::atomic::AtomicU64;
 use std::test::Fail;
@@ -25,57 +24,94 @@ const FILES: [NamedFile<'static>; 3] = [
     },
 ];
 
-// What is begun gives these bytes one by one, but for a read after so many, which fails; then nothing is begun.
-fn assert_fails_after<S: Shelf>(rt: &impl Abort, shelf: &mut S, content: &[u8]) {
+// The first read fails; then nothing is begun.
+#[test]
+fn a_first_read_in_order_fails(rt: HostRuntime) {
     let mut buffer = [0; 8];
-    for byte in content {
-        assert_eq!(rt; shelf.read(&mut buffer), Ok(1));
-        assert_eq!(rt; buffer[0], *byte);
-    }
+    let system = System::new(&FILES, Reads::failing_after(0));
+    let files = FakeFiles::new(&rt, &system);
+    let input = SharedInput {
+        content: b"four",
+        offset: &AtomicU64::new(0),
+        reads: &Reads::failing_after(0),
+    };
+    let mut shelf = FileShelf::new(
+        RealDisk::new(&files),
+        RealInput::new(&files, input, NOT_SHOWN),
+    );
+    assert_eq!(rt; shelf.begin("a"), Ok(()));
+    assert_eq!(rt; shelf.read(&mut buffer), Err(CannotRead));
+    assert_eq!(rt; shelf.read(&mut buffer), Ok(0));
+    assert_eq!(rt; shelf.begin("-"), Ok(()));
     assert_eq!(rt; shelf.read(&mut buffer), Err(CannotRead));
     assert_eq!(rt; shelf.read(&mut buffer), Ok(0));
 }
 
-// The last of these reads would say that the file ends.
+// The read that would say that the file ends fails.
 #[test]
-fn each_read_in_order_fails(rt: HostRuntime) {
-    for given in 0..5usize {
-        let system = System::new(&FILES, Reads::failing_after(given as u64));
-        let files = FakeFiles::new(&rt, &system);
-        let mut shelf = FileShelf::new(RealDisk::new(&files), MemoryFile::new(b""));
-        assert_eq!(rt; shelf.begin("a"), Ok(()));
-        assert_fails_after(&rt, &mut shelf, &b"four"[..given]);
+fn a_last_read_in_order_fails(rt: HostRuntime) {
+    let mut buffer = [0; 8];
+    let system = System::new(&FILES, Reads::whole_before_a_fault());
+    let files = FakeFiles::new(&rt, &system);
+    let input = SharedInput {
+        content: b"more",
+        offset: &AtomicU64::new(0),
+        reads: &Reads::whole_before_a_fault(),
+    };
+    let mut shelf = FileShelf::new(
+        RealDisk::new(&files),
+        RealInput::new(&files, input, NOT_SHOWN),
+    );
+    assert_eq!(rt; shelf.begin("a"), Ok(()));
+    assert_eq!(rt; shelf.read(&mut buffer), Ok(4));
+    assert_eq!(rt; buffer[..4], b"four"[..]);
+    assert_eq!(rt; shelf.read(&mut buffer), Err(CannotRead));
+    assert_eq!(rt; shelf.begin("-"), Ok(()));
+    assert_eq!(rt; shelf.read(&mut buffer), Ok(4));
+    assert_eq!(rt; buffer[..4], b"more"[..]);
+    assert_eq!(rt; shelf.read(&mut buffer), Err(CannotRead));
+}
 
-        let input = SharedInput {
-            content: b"four",
-            offset: &AtomicU64::new(0),
-            reads: &Reads::failing_after(given as u64),
-        };
-        let mut shelf = FileShelf::new(RealDisk::new(&rt), RealInput::new(&rt, input, NOT_SHOWN));
-        assert_eq!(rt; shelf.begin("-"), Ok(()));
-        assert_fails_after(&rt, &mut shelf, &b"four"[..given]);
-    }
+// What is read of four bytes at an offset, where a read fails after so many.
+fn assert_fails_at<'x>(
+    rt: &'x impl Abort,
+    content: &'x [u8],
+    before_fault: u64,
+    given: Option<usize>,
+) {
+    let named = [NamedFile { name: "a", content }];
+    let system = System::new(&named, Reads::failing_after(before_fault));
+    let files = FakeFiles::new(rt, &system);
+    let mut shelf = FileShelf::new(RealDisk::new(&files), MemoryFile::new(b""));
+    let mut buffer = [0; 8];
+    assert_eq!(rt; shelf.begin("a"), Ok(()));
+    assert_eq!(rt; shelf.read_at(0, &mut buffer), given, "{before_fault}");
+}
+
+// The same where they are hashed beside others.
+fn assert_whole_fails<'x>(
+    rt: &'x impl Abort,
+    content: &'x [u8],
+    before_fault: u64,
+    is_given: bool,
+) {
+    let named = [NamedFile { name: "a", content }];
+    let system = System::new(&named, Reads::failing_after(before_fault));
+    let files = FakeFiles::new(rt, &system);
+    let shelf = FileShelf::new(RealDisk::new(&files), MemoryFile::new(b""));
+    let is_hashed = digest_of_whole(&shelf, "a", 4).is_some();
+    assert_eq!(rt; is_hashed, is_given);
 }
 
 // Five reads give a file of four bytes and its end.
 #[test]
 fn each_read_at_an_offset_fails(rt: HostRuntime) {
-    let mut buffer = [0; 8];
-    for before_fault in 0..6 {
-        let system = System::new(&FILES, Reads::failing_after(before_fault));
-        let files = FakeFiles::new(&rt, &system);
-        let mut shelf = FileShelf::new(RealDisk::new(&files), MemoryFile::new(b""));
-        assert_eq!(rt; shelf.begin("a"), Ok(()));
-        let given = if before_fault < 5 { None } else { Some(4) };
-        assert_eq!(rt; shelf.read_at(0, &mut buffer), given, "{before_fault}");
+    for before_fault in 0..5 {
+        assert_fails_at(&rt, b"four", before_fault, None);
+        assert_whole_fails(&rt, b"four", before_fault, false);
     }
-    for before_fault in 0..6 {
-        let system = System::new(&FILES, Reads::failing_after(before_fault));
-        let files = FakeFiles::new(&rt, &system);
-        let shelf = FileShelf::new(RealDisk::new(&files), MemoryFile::new(b""));
-        let is_hashed = digest_of_whole(&shelf, "a", 4).is_some();
-        assert_eq!(rt; is_hashed, before_fault == 5);
-    }
+    assert_fails_at(&rt, b"four", 5, Some(4));
+    assert_whole_fails(&rt, b"four", 5, true);
 }
 
 // Of an input that is a plain file, the input fails, or the file that is opened anew does. Eight reads of one byte give
@@ -195,11 +231,12 @@ fn a_file_is_closed_before_the_next_is_opened(rt: HostRuntime) {
     let files = FakeFiles::new(&rt, &system);
     let input = RealInput::new(&files, b"four".as_slice(), NOT_SHOWN);
     let mut shelf = FileShelf::new(RealDisk::new(&files), input);
-    for name in ["a", "b", "-", "a", "missing", "b", "closed", "a", "-", "b"] {
-        let _answer = shelf.begin(name);
-        let is_whole = digest_of_whole(&shelf, "missing", 8).is_some();
-        assert!(rt; !is_whole);
-    }
+    assert_eq!(rt; shelf.begin("a"), Ok(()));
+    assert_eq!(rt; shelf.begin("b"), Ok(()));
+    assert_eq!(rt; shelf.begin("-"), Ok(()));
+    assert_eq!(rt; shelf.begin("a"), Ok(()));
+    assert_eq!(rt; shelf.begin("missing"), Err(NoContent::Missing));
+    assert_eq!(rt; shelf.begin("b"), Ok(()));
     assert_eq!(rt; system.overlapping(), 0);
 }
 
@@ -207,28 +244,24 @@ fn a_file_is_closed_before_the_next_is_opened(rt: HostRuntime) {
 fn a_file_that_may_not_be_read_is_not_missing(rt: HostRuntime) {
     let system = System::new(&FILES, Reads::plain());
     let files = FakeFiles::new(&rt, &system);
-    let disk = RealDisk::new(&files);
-    for (name, kind) in [
-        ("closed", ErrorKind::PermissionDenied),
-        ("missing", ErrorKind::NotFound),
-    ] {
-        assert!(rt;
-            disk.open(name).is_err_and(|error| error.kind() == kind),
-            "{name}"
-        );
-    }
-    let mut shelf = FileShelf::new(disk, MemoryFile::new(b""));
+    let input = RealInput::new(&files, b"four".as_slice(), NOT_SHOWN);
+    let mut shelf = FileShelf::new(RealDisk::new(&files), input);
     assert_eq!(rt; shelf.begin("closed"), Err(NoContent::CannotRead));
     assert_eq!(rt; shelf.begin("missing"), Err(NoContent::Missing));
+}
+
+// Of a file that a folder replaced after its name was asked, no byte is read.
+fn assert_replaced_is_not_read<'x>(rt: &'x impl Abort, content: &'x [u8]) {
+    let named = [NamedFile { name: "a", content }];
+    let system = System::replaced(&named);
+    let files = FakeFiles::new(rt, &system);
+    let shelf = FileShelf::new(RealDisk::new(&files), MemoryFile::new(b""));
+    assert_eq!(rt; digest_of_whole(&shelf, "a", 8), None);
+    assert_eq!(rt; system.reads.calls(), 0);
 }
 
 // What stands under a name by the time that it is opened is asked again: a FIFO or a device would wait to be read.
 #[test]
 fn a_file_that_was_replaced_is_not_looked_at(rt: HostRuntime) {
-    let mut system = System::new(&FILES, Reads::plain());
-    system.is_replaced = true;
-    let files = FakeFiles::new(&rt, &system);
-    let shelf = FileShelf::new(RealDisk::new(&files), MemoryFile::new(b""));
-    assert_eq!(rt; digest_of_whole(&shelf, "a", 8), None);
-    assert_eq!(rt; system.reads.calls(), 0);
+    assert_replaced_is_not_read(&rt, b"four");
 }
