@@ -82,18 +82,11 @@ impl Env for Texts<'_> {
 }
 
 #[test]
-fn arguments_of_any_number_are_read(rt: HostRuntime) -> Result<(), io::Error> {
-    let texts = ["x"; 5_000];
-    for count in [0, 1, 1_000, 1_001, 5_000] {
-        let given = arguments(
-            &Texts {
-                texts: &texts[..count],
-            },
-            rt.alloc(),
-        )?;
-        assert_eq!(&rt; given.len(), count);
-        assert!(&rt; given.iter().all(|text| text.as_str() == "x"), "{count}");
-    }
+fn two_thousand_arguments_are_read(rt: HostRuntime) -> Result<(), io::Error> {
+    let texts = ["x"; 2_000];
+    let given = arguments(&Texts { texts: &texts }, rt.alloc())?;
+    assert_eq!(&rt; given.len(), 2_000);
+    assert!(&rt; given.iter().all(|text| text.as_str() == "x"));
     Ok(())
 }
 

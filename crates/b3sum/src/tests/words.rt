@@ -84,34 +84,6 @@ fn all_words(rt: HostRuntime) -> Result<(), Stop> {
     Ok(())
 }
 
-// A name and a context are taken to the character: nothing is trimmed, and nothing stands for another.
-#[test]
-fn names_and_contexts_are_taken_as_they_are(rt: HostRuntime) -> Result<(), Stop> {
-    for text in [
-        "a", " a", "a ", " a b ", "\ta", "a\n", "a\r\n", "a/", "a//", "./a", "a/.", "A", "a,b",
-        "a=b", "\"a\"", "*", "~", "$a", "\u{e9}", "e\u{301}", " ", "@a",
-    ] {
-        let words = read(rt.alloc(), &["--derive-key", text, text, "b", text])?;
-        assert_eq!(&rt; words.files.len(), 3, "{text}");
-        assert_eq!(&rt; words.files[0].as_str(), text);
-        assert_eq!(&rt; words.files[1].as_str(), "b");
-        assert_eq!(&rt; words.files[2].as_str(), text);
-        let context = words.derive_key;
-        assert!(&rt;
-            context.is_some_and(|context| context.as_str() == text),
-            "{text}"
-        );
-    }
-    Ok(())
-}
-
-#[test]
-fn many_files(rt: HostRuntime) -> Result<(), Stop> {
-    let words = read(rt.alloc(), &["a"; 5_000])?;
-    assert_eq!(&rt; words.files.len(), 5_000);
-    Ok(())
-}
-
 #[test]
 fn the_ends_of_each_range(rt: HostRuntime) -> Result<(), Stop> {
     let alloc = rt.alloc();
