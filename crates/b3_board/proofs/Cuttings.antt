@@ -10,7 +10,7 @@ use Rattle.std.proofs.lemmas.List.Elements.{All-get_or}
 use Rattle.b3_core.specs.Subtrees.{IsSubtree}
 use Rattle.b3_core.specs.Tree.{chunks}
 use Rattle.b3_core.specs.declared.modes.Mode.{Mode}
-use Rattle.b3_core.specs.declared.tree.Span.{Span}
+use Rattle.b3_core.specs.declared.spans.Span.{Span}
 use Rattle.b3_board.specs.declared.entries.Entry.{Entry}
 use Rattle.b3_board.specs.Entries.{at, fresh, nothing, has_chunk, kept_count, open_count, open_spans, pieces, is_kept, FitsState, Lawful}
 use Rattle.b3_board.specs.Plans.{IsCutting, IsRow, grain_span, grain_spans}

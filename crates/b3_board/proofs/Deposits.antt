@@ -5,7 +5,7 @@ use Rattle.std.proofs.lemmas.List.{get_or_past}
 use Rattle.std.specs.List.{All, Contains, cons_option, filter_map, slice_get, sum_by}
 use Rattle.std.specs.Option.{IfNone, IfSome}
 use Rattle.b3_core.specs.declared.modes.Mode.{Mode}
-use Rattle.b3_core.specs.declared.tree.Span.{Span}
+use Rattle.b3_core.specs.declared.spans.Span.{Span}
 use Rattle.b3_board.specs.Entries.{IsInOrder, NoneOpen, at, kept_chunk, nothing, open_span, open_spans, pieces, some_open}
 use Rattle.b3_board.specs.Pictures.{IsAscending, IsDeposit, Piece, ahead, no_spans}
 use Rattle.b3_board.specs.Spans.{Known, has}

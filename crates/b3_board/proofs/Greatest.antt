@@ -6,7 +6,7 @@ use Rattle.std.proofs.lemmas.List.Sums.{get_or-le-sum_by, sum_by-append, sum_by-
 use Rattle.std.proofs.lemmas.List.{get_or_default}
 use Rattle.std.specs.List.{Contains, sum_by}
 use Rattle.b3_core.specs.Subtrees.{AreChildren, IsSubtree}
-use Rattle.b3_core.specs.declared.tree.Span.{Span}
+use Rattle.b3_core.specs.declared.spans.Span.{Span}
 use Rattle.b3_core.proofs.Covers.{has_all}
 use Rattle.b3_core.proofs.Grid.{InGrid-from_IsSubtree, Within}
 use Rattle.b3_core.proofs.Siblings.{IsSubtree-had}

@@ -8,7 +8,7 @@ use Rattle.b3_core.specs.Subtrees.{AreChildren}
 use Rattle.b3_core.specs.Tree.{chunks, parent_node, top}
 use Rattle.b3_core.specs.declared.modes.Mode.{Mode}
 use Rattle.b3_core.specs.declared.nodes.Node.{Node}
-use Rattle.b3_core.specs.declared.tree.Span.{Span}
+use Rattle.b3_core.specs.declared.spans.Span.{Span}
 use Rattle.b3_core.proofs.Siblings.{Kids-from_AreChildren}
 use Rattle.b3_board.specs.Spans.{IsNodeOf, IsRootOf, Known, MayBe, in_memory, part, top_of}
 use Rattle.b3_board.proofs.SpanBytes.{top-part}

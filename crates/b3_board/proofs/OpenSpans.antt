@@ -8,7 +8,7 @@ use Rattle.std.specs.List.{sum_by, filter_map, cons_option}
 use Rattle.b3_core.specs.Subtrees.{AreChildren, IsSubtree}
 use Rattle.b3_core.specs.Tree.{chunks, top}
 use Rattle.b3_core.specs.declared.modes.Mode.{Mode}
-use Rattle.b3_core.specs.declared.tree.Span.{Span}
+use Rattle.b3_core.specs.declared.spans.Span.{Span}
 use Rattle.b3_core.proofs.Grid.{InGrid-from_IsSubtree}
 use Rattle.b3_board.specs.declared.entries.Entry.{Entry}
 use Rattle.b3_board.specs.declared.entries.State.{State}

@@ -9,7 +9,7 @@ use Rattle.b3_core.specs.Subtrees.{AreSiblings}
 use Rattle.b3_core.specs.Tree.{chunks}
 use Rattle.b3_core.specs.declared.modes.Mode.{Mode}
 use Rattle.b3_core.specs.declared.nodes.Node.{Node}
-use Rattle.b3_core.specs.declared.tree.Span.{Span}
+use Rattle.b3_core.specs.declared.spans.Span.{Span}
 use Rattle.b3_board.specs.Entries.{FitsState, Lawful, at, has_chunk, if_kept, if_open, is_joined, is_kept, kept_chunk, kept_count, nothing, open_span, open_spans, piece_of, pieces, some_open, some_piece}
 use Rattle.b3_board.specs.Pictures.{HasTopsOf, IsLawful, Picture, Piece}
 use Rattle.b3_board.specs.Spans.{IsNodeOf, IsSubtreeSpan, Known, has, in_memory, times, top_of}

@@ -3,7 +3,7 @@ use Rattle.std.proofs.Common.{◌≡◌, ℕ, ◌+◌, ◌<◌, ◌≤◌, Bool,
 use Rattle.std.proofs.lemmas.List.Sums.{sum_by_push}
 use mathlib.Core.Logic.{dite}
 use native.Mathlib.Decide.{ℕ_discrete}
-use Rattle.b3_core.specs.declared.tree.Span.{Span}
+use Rattle.b3_core.specs.declared.spans.Span.{Span}
 use Rattle.b3_board.specs.Claiming.{has, tried}
 use Rattle.b3_board.specs.Seats.{BeginsWith, Seated}
 use Rattle.b3_board.specs.Shares.{Holding}

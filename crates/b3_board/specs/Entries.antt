@@ -6,7 +6,7 @@ use Rattle.b3_core.specs.Subtrees.{AreChildren}
 use Rattle.b3_core.specs.Tree.{chunks}
 use Rattle.b3_core.specs.declared.modes.Mode.{Mode}
 use Rattle.b3_core.specs.declared.nodes.Node.{Node}
-use Rattle.b3_core.specs.declared.tree.Span.{Span}
+use Rattle.b3_core.specs.declared.spans.Span.{Span}
 use Rattle.b3_board.specs.Pictures.{Piece}
 use Rattle.b3_board.specs.Spans.{IsNodeOf, IsSubtreeSpan, Known, has}
 use Rattle.b3_board.specs.declared.entries.Entry.{Entry}

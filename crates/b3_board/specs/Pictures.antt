@@ -5,7 +5,7 @@ use Rattle.b3_core.specs.Subtrees.{AreSiblings, IsSubtree}
 use Rattle.b3_core.specs.Tree.{chunks}
 use Rattle.b3_core.specs.declared.modes.Mode.{Mode}
 use Rattle.b3_core.specs.declared.nodes.Node.{Node}
-use Rattle.b3_core.specs.declared.tree.Span.{Span}
+use Rattle.b3_core.specs.declared.spans.Span.{Span}
 use Rattle.b3_board.specs.Plans.{Hashed, Outline}
 use Rattle.b3_board.specs.Spans.{IsNodeOf, IsSubtreeSpan, Known, chunks_in, has, in_memory, part, times, top_of}
 

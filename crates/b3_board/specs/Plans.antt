@@ -5,7 +5,7 @@ use Rattle.std.specs.List.{range_with_len}
 use Rattle.b3_core.specs.Tree.{chunks, top}
 use Rattle.b3_core.specs.declared.modes.Mode.{Mode}
 use Rattle.b3_core.specs.declared.nodes.Node.{Node}
-use Rattle.b3_core.specs.declared.tree.Span.{Span}
+use Rattle.b3_core.specs.declared.spans.Span.{Span}
 use Rattle.b3_board.specs.Spans.{IsSubtreeSpan, Known, chunks_in, in_memory, part}
 
 -- a plan: an input, its mode, the number of its first chunk, and the spans that it is cut into

@@ -5,7 +5,7 @@ use Rattle.b3_core.specs.Subtrees.{IsSubtree}
 use Rattle.b3_core.specs.Tree.{top}
 use Rattle.b3_core.specs.declared.modes.Mode.{Mode}
 use Rattle.b3_core.specs.declared.nodes.Node.{Node}
-use Rattle.b3_core.specs.declared.tree.Span.{Span}
+use Rattle.b3_core.specs.declared.spans.Span.{Span}
 
 -- the span is a subtree of the tree over n chunks, whichever way leads down to it
 abbrev pub IsSubtreeSpan : ℕ → Span → Type 0

@@ -2,7 +2,7 @@
 use Rattle.std.specs.Prelude.{◌≡◌, ℕ, ◌+◌, ◌≤◌, true, List, [], length, map, nat_lt, slice_index}
 use Rattle.std.specs.List.{sum_by}
 use Rattle.b3_core.specs.Tree.{top}
-use Rattle.b3_core.specs.declared.tree.Span.{Span}
+use Rattle.b3_core.specs.declared.spans.Span.{Span}
 use Rattle.b3_board.specs.Claiming.{one_if, times}
 use Rattle.b3_board.specs.Plans.{Outline}
 use Rattle.b3_board.specs.RootNodes.{RootNode}

@@ -89,7 +89,7 @@ pub(crate) struct Unread<H: Backing> {
 }
 
 impl<H: Backing> Model for Unread<H> {
-    ghost use Rattle.b3_core.specs.declared.tree.Span.{Span};
+    ghost use Rattle.b3_core.specs.declared.spans.Span.{Span};
 
     ghost Value = { Span };
 

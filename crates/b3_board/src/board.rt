@@ -2,7 +2,7 @@
 
 ghost use Rattle.std.specs.Prelude.{◌≡◌, ◌↔◌, ℕ, List, ◌+◌, ◌<◌, ◌≤◌, ◌^◌, true, [], All, length, map, slice_get, Contains, Err, Some, IfErr, IfNone, IfOk, IfSome, IsOk, IsOkUnless, IsSome, IsTrue, OnErr, OnOk};
 ghost use Rattle.b3_core.specs.Tree.{chunks, top};
-ghost use Rattle.b3_core.specs.declared.tree.Span.{Span};
+ghost use Rattle.b3_core.specs.declared.spans.Span.{Span};
 ghost use Rattle.b3_board.specs.Pictures.{HasTopsOf, IsAscending, IsDeposit, IsLawful, IsOver, IsOwn, PiecesAreGreatest, begun, opened, piece_spans, size};
 ghost use Rattle.b3_board.specs.Plans.{IsCutting, IsPlanOf};
 ghost use Rattle.b3_board.specs.Regions.{span_of};

@@ -2,7 +2,7 @@
 
 ghost use Rattle.std.specs.Prelude.{◌≡◌, ℕ, ◌+◌, ◌<◌, ◌≤◌, ◌^◌, List, length, IfSome};
 ghost use Rattle.b3_core.specs.Tree.{chunks};
-ghost use Rattle.b3_core.specs.declared.tree.Span.{Span};
+ghost use Rattle.b3_core.specs.declared.spans.Span.{Span};
 ghost use Rattle.b3_board.specs.Plans.{IsCutting, IsPlanOf};
 ghost use Rattle.b3_board.specs.Regions.{IsMade, span_of};
 ghost use Rattle.b3_board.specs.Spans.{chunks_in};

@@ -8,7 +8,7 @@ use Rattle.std.specs.Int.{trailing_zeros, w64}
 use Rattle.b3_core.specs.Tree.{IsLeft}
 use Rattle.b3_core.specs.Subtrees.{AreChildren, AreSiblings, IsSubtree}
 use Rattle.b3_core.specs.Subtrees.IsSubtree.{left_child, right_child}
-use Rattle.b3_core.specs.declared.tree.Span.{Span}
+use Rattle.b3_core.specs.declared.spans.Span.{Span}
 use Rattle.b3_core.proofs.Grid.{InGrid, InGrid-from_IsSubtree, IsSubtree-from_InGrid, IsSubtree-from_tests, tests-from_IsSubtree}
 use Rattle.b3_core.proofs.Powers.{cancel, double, exponent, lower_multiple, lowest_bit, next_power, not_above}
 

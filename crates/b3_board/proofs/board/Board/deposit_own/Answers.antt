@@ -3,7 +3,7 @@ use Rattle.std.proofs.lemmas.Bool.{false≢true}
 use Rattle.std.proofs.lemmas.List.{with_items_is}
 use Rattle.std.specs.List.{Contains}
 use Rattle.std.specs.Vec.{with_items}
-use Rattle.b3_core.specs.declared.tree.Span.{Span}
+use Rattle.b3_core.specs.declared.spans.Span.{Span}
 use Rattle.b3_board.specs.Entries.{KeepsBoard, at, kept_chunk, kept_count, open_span}
 use Rattle.b3_board.specs.Pictures.{IsDeposit, IsLawful, Picture, Piece}
 use Rattle.b3_board.specs.declared.entries.Entry.{Entry}

@@ -2,7 +2,7 @@ use Rattle.std.proofs.Common.{◌≡◌, [], ◌+◌, ◌<◌, ◌≤◌, arith,
 use Rattle.std.specs.List.{Contains, slice_get}
 use Rattle.std.specs.Option.{IfNone, IfSome}
 use Rattle.b3_core.specs.Tree.{chunks}
-use Rattle.b3_core.specs.declared.tree.Span.{Span}
+use Rattle.b3_core.specs.declared.spans.Span.{Span}
 use Rattle.b3_board.specs.Entries.{at, if_open, open_count, open_spans}
 use Rattle.b3_board.specs.Pictures.{Picture}
 use Rattle.b3_board.specs.declared.entries.State.{State}

@@ -1,5 +1,5 @@
 use Rattle.std.proofs.Common.{◌≡◌, ◌-◌, arith, subst}
-use Rattle.b3_core.specs.declared.tree.Span.{Span}
+use Rattle.b3_core.specs.declared.spans.Span.{Span}
 use Rattle.b3_board.specs.Entries.{open_spans}
 use Rattle.b3_board.specs.Pictures.{Picture}
 use Rattle.b3_board.specs.Spans.{chunks_in}
