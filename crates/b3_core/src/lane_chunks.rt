@@ -1,15 +1,12 @@
 // Chunks (BLAKE3 (2020), 2.4) on lanes: the chaining values of up to eight full chunks at once.
 
-ghost use Rattle.std.specs.Prelude.{◌≡◌, ℕ, [], ◌++◌, ◌+◌, ◌*◌, ◌^◌, ◌<◌, ◌≤◌, length, map, take, drop, slice_index};
-ghost use Rattle.std.specs.Prelude.{slice_index_or};
+ghost use Rattle.std.specs.Prelude.{◌≡◌, ℕ, ◌++◌, ◌+◌, ◌*◌, ◌^◌, ◌<◌, ◌≤◌, length, map, take, drop, slice_index};
 ghost use Rattle.std.specs.List.{range_with_len};
 ghost use Rattle.b3_core.specs.Words.{words_of};
-ghost use Rattle.b3_core.specs.Chunks.{chunk_at, chunk_node};
-ghost use Rattle.b3_core.specs.Nodes.{chaining};
 ghost use Rattle.b3_core.specs.Lanes.{AreWide, chunk_chaining, full_chunk_flags, lane, word_from};
 
 use crate::flags::CHUNK_END;
-use crate::lanes::{all_listed, chainings8, counters_from};
+use crate::lanes::{chainings8, counters_from};
 use crate::leaves::{BLOCK_LEN, CHUNK_LEN, block_flags};
 use crate::modes::Mode;
 use crate::spread::spread;
@@ -160,15 +157,4 @@ pub(crate) fn chain_few(mode: &Mode, first: u64, bytes: &[u8], n: usize) -> [u32
         → lane j result ≡ chunk_chaining mode.now first bytes.now j }
 {
     chain_lanes(mode, first, bytes, n)
-}
-
-/// The chaining values of eight full chunks, numbered from `first` on (BLAKE3 (2020), 2.4): list `j` of
-/// the result is that of the 1,024 bytes from place 1,024 `j` on.
-pub fn chain8(mode: &Mode, first: u64, bytes: &[u8; 8192]) -> [[u32; 8]; 8]
-    requires { first + 8 ≤ 2 ^ 54 }
-    ensures { (j : ℕ) → j < 8 → slice_index_or result j []
-        ≡ chaining (chunk_node mode.now (first + j) (chunk_at bytes.now j)) }
-{
-    let h = chain_eight(mode, first, bytes);
-    all_listed(&h)
 }

@@ -3,7 +3,7 @@ use Rattle.std.proofs.Math.ListN.{get_or-map as get_or-of_map}
 use Rattle.b3_core.specs.Compression.{compress, output}
 use Rattle.b3_core.specs.Lanes.{lane}
 use Rattle.b3_core.proofs.Lists.{below_eight}
-use Rattle.b3_core.proofs.lanes.compress8.Goals as goal
+use Rattle.b3_core.proofs.batch.compress8.Goals as goal
 
 pub returns : goal.returns
 unfolding compress

@@ -1,7 +1,7 @@
 use Rattle.std.proofs.Common.{[], ◌∷◌, get_or, map, ◌∙◌, sym}
 use Rattle.std.proofs.Math.ListN.{get_or-map as get_or-of_map}
 use Rattle.b3_core.proofs.Lists.{elements, map-below}
-use Rattle.b3_core.proofs.lanes.gathered8.Goals as goal
+use Rattle.b3_core.proofs.batch.gathered8.Goals as goal
 
 pub returns-clause-lanes : goal.returns-clause-lanes
 returns-clause-lanes c j lt =
