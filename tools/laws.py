@@ -118,5 +118,6 @@ LIBRARIES = (
         (Public("b3_board/src/claims.rt"), Public("b3_board/src/workers.rt"), Public("b3_board/src/parallel.rt"),
          Public("b3_board/src/from_source.rt"))),
     Law("Check lines", "What is written reads back, and each line reads in one way.",
-        (Public("b3_lines/src/writing.rt"), Public("b3_lines/src/tagging.rt"), Public("b3_lines/src/reading.rt"))),
+        (Public("b3_lines/src/writing.rt"), Public("b3_lines/src/tagging.rt"), Public("b3_lines/src/reading.rt"),
+         Public("b3_lines/src/places.rt"))),
 )

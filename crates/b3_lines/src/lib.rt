@@ -17,7 +17,7 @@ mod writing;
 
 pub use fault::LineFault;
 pub use names::holds_bad_character;
-pub use places::Lines;
-pub use reading::{Line, lines, read_line};
+pub use places::{Lines, lines};
+pub use reading::{Line, read_line};
 pub use tagging::write_tagged;
 pub use writing::{shown_name, write_line};

@@ -1,8 +1,8 @@
 //! The places of the lines of a text.
 
-ghost use Rattle.std.specs.Prelude.{◌≡◌, ℕ, ◌+◌, ◌<◌, ◌≤◌, List, ◌∷◌, length, take, drop};
+ghost use Rattle.std.specs.Prelude.{◌≡◌, ℕ, ◌+◌, ◌<◌, ◌≤◌, List, ◌∷◌, All, length, map, take, drop};
 ghost use Rattle.std.specs.Iterator.{YieldsFirst, item_count};
-ghost use Rattle.b3_lines.specs.Lines.{line_places, lines_of, places_from};
+ghost use Rattle.b3_lines.specs.Lines.{AreLines, IsWithin, line_at, line_places, lines_of, places_from};
 
 use memchr::memchr;
 use std::marker::Model;
@@ -47,6 +47,22 @@ impl<'t> Iterator for Lines<'t> {
         self.start = end + 1;
         Some((start, end))
     }
+}
+
+/// The places of the lines of a text, in order: the pieces between line feeds, without a piece
+/// after a line feed that ends the text. It takes no memory.
+pub fn lines(text: &[u8]) -> Lines<'_>
+    ensures places { result ≡ line_places text.now }
+    // At each place stands its line.
+    ensures lines { map (line_at text.now) result ≡ lines_of text.now }
+    ensures within { All (IsWithin text.now) result }
+    ensures count { length result ≤ length text.now }
+
+    // What `lines_of` gives is the lines of the text, and nothing else is.
+    ensures are_lines { AreLines text.now (lines_of text.now) }
+    ensures no_other { (pieces : List (List ℕ)) → AreLines text.now pieces → pieces ≡ lines_of text.now }
+{
+    Lines::new(text)
 }
 
 /// How long the first line of a text is.

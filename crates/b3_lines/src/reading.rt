@@ -1,15 +1,13 @@
 //! Check lines read.
 
-ghost use Rattle.std.specs.Prelude.{◌≡◌, ◌+◌, ◌<◌, ◌≤◌, ◌↔◌, ◌&&◌, Bool, List, ℕ, All, map, Some, None, IsNone, IfSome, IsTrue, true, false, length, IfOk, IfErr, IsErrOf, MatchResult};
+ghost use Rattle.std.specs.Prelude.{◌≡◌, ◌+◌, ◌<◌, ◌↔◌, ◌&&◌, Bool, List, ℕ, Some, None, IsNone, IfSome, IsTrue, true, false, length, IfOk, IfErr, IsErrOf, MatchResult};
 ghost use Rattle.std.specs.String.{string_bytes};
-ghost use Rattle.b3_lines.specs.Lines.{AreLines, IsWithin, line_at, line_places, lines_of};
 ghost use Rattle.b3_lines.specs.Names.{has_bad_escape, unescaped};
 ghost use Rattle.b3_lines.specs.Parts.{AreParts, HasParts, IsCut, shown_of};
 ghost use Rattle.b3_lines.specs.Reading.{HasOneForm, HasOneOutcome, IsReadAs, after_mark, first_refusal, has_mark, is_tagged, layout_of, name_of, plain_layout, refusal_after_mark, refusal_of, tagged_layout, without_return};
 
 use crate::fault::LineFault;
 use crate::names::{count_escapes, holds_bad_character, unescaped};
-use crate::places::Lines;
 use hex::FromHex;
 use std::alloc::{AllocError, Global};
 use std::str;
@@ -65,22 +63,6 @@ impl Parts<'_> {
         shown.push_str(self.spelled)?;
         Ok(shown)
     }
-}
-
-/// The places of the lines of a text, in order: the pieces between line feeds, without a piece
-/// after a line feed that ends the text. It takes no memory.
-pub fn lines(text: &[u8]) -> Lines<'_>
-    ensures places { result ≡ line_places text.now }
-    // At each place stands its line.
-    ensures lines { map (line_at text.now) result ≡ lines_of text.now }
-    ensures within { All (IsWithin text.now) result }
-    ensures count { length result ≤ length text.now }
-
-    // What `lines_of` gives is the lines of the text, and nothing else is.
-    ensures are_lines { AreLines text.now (lines_of text.now) }
-    ensures no_other { (pieces : List (List ℕ)) → AreLines text.now pieces → pieces ≡ lines_of text.now }
-{
-    Lines::new(text)
 }
 
 /// Reads the bytes of one line, plain or tagged, without its line feed.

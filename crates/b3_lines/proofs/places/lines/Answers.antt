@@ -3,7 +3,7 @@ use Rattle.std.specs.Prelude.{All}
 use Rattle.b3_lines.specs.Lines.{IsWithin, line_at, lines_of}
 use Rattle.b3_lines.proofs.LinesOf.{AreLines-lines_of, length-lines_of, lines_of-only}
 use Rattle.b3_lines.proofs.PlacesFrom.{Stand-lines_of, length-places_from}
-use Rattle.b3_lines.proofs.reading.lines.Goals as goal
+use Rattle.b3_lines.proofs.places.lines.Goals as goal
 
 pub returns-clause-lines : goal.returns-clause-lines
 returns-clause-lines c =
