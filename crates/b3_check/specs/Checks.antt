@@ -3,8 +3,7 @@ use Rattle.std.specs.Prelude.{ℕ, ◌+◌, ◌==◌, ◌&&◌, ◌||◌, Bool, 
 use Rattle.std.specs.Option.{option_map_or}
 use Rattle.hex.specs.Hex.{decode_of}
 use Rattle.b3_lines.specs.Lines.{lines_of}
-use Rattle.b3_lines.specs.Parts.{shown_of}
-use Rattle.b3_lines.specs.Reading.{after_mark, first_refusal, has_mark, layout_of, name_of, without_return}
+use Rattle.b3_lines.specs.Reading.{after_mark, first_refusal, has_mark, layout_of, name_of, shown_of, without_return}
 use Rattle.b3_lines.specs.Reasons.{reason_of}
 use Rattle.b3_lines.specs.declared.fault.LineFault.{LineFault}
 use Rattle.b3_check.specs.declared.judging.Answer.{Answer as DigestAnswer}

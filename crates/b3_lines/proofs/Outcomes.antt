@@ -9,8 +9,8 @@ use Rattle.hex.specs.Hex.{decode_of, is_hex_digit}
 use Rattle.hex.proofs.HexLemmas.{decode_of-ok, decode_of-same}
 use Rattle.b3_lines.specs.declared.fault.LineFault.{LineFault}
 use Rattle.b3_lines.specs.Names.{Spells, has_bad_escape, holds_bad_character, unescaped}
-use Rattle.b3_lines.specs.Reading.{AreDigits, HasOneOutcome, IsReadAs, Layout, Reads, ReadsTagged, SaysMarked, SaysMarkedTagged, SaysOne, SaysTagged, SaysUnmarked, after_mark, first_refusal, has_mark, is_tagged, layout_of, name_of, refusal_after_mark, without_return}
-use Rattle.b3_lines.specs.Parts.{HasParts, shown_of}
+use Rattle.b3_lines.specs.Reading.{AreDigits, HasOneOutcome, IsReadAs, Layout, Reads, ReadsTagged, SaysMarked, SaysMarkedTagged, SaysOne, SaysTagged, SaysUnmarked, after_mark, first_refusal, has_mark, is_tagged, layout_of, name_of, refusal_after_mark, shown_of, without_return}
+use Rattle.b3_lines.specs.Parts.{HasParts}
 use Rattle.b3_lines.specs.Writing.{closing, spaces, tag}
 use Rattle.b3_lines.proofs.DigitsAndSpaces.{digest-from_digits, list_all-AllPass}
 use Rattle.b3_lines.proofs.Layouts.{LiesAs, LiesAs-plain, LiesAs-tagged, joined-plain, joined-tagged, length-layout_digits}

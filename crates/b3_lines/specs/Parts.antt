@@ -1,12 +1,8 @@
--- The parts of a line that is accepted, before its texts are made.
-use Rattle.std.specs.Prelude.{◌≡◌, ℕ, ◌+◌, Bool, true, false, if◌then◌else◌, List, ◌∷◌, length, None, Ok}
+-- The parts of a line that is accepted, before its texts are made: for private contracts alone.
+use Rattle.std.specs.Prelude.{◌≡◌, ℕ, ◌+◌, Bool, true, false, List, length, None, Ok}
 use Rattle.hex.specs.Hex.{decode_of}
 use Rattle.b3_lines.specs.Names.{has_bad_escape, unescaped}
 use Rattle.b3_lines.specs.Reading.{Layout, after_mark, first_refusal, has_mark, layout_of, refusal_after_mark, without_return}
-
--- the shown form of the name that stands in a line as `spelled`
-abbrev pub shown_of : Bool → List ℕ → List ℕ
-shown_of marked spelled = if marked then 92 ∷ spelled else spelled
 
 -- parts that lie so pass the tests of all but the name, and say this digest and this name as it stands
 pub record IsCut (layout : Layout) (digest spelled : List ℕ) : Type 0 where

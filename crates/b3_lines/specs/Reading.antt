@@ -82,6 +82,10 @@ after_mark text = if has_mark text then drop 1 text else text
 abbrev pub name_of : Bool → List ℕ → List ℕ
 name_of marked spelled = if marked then unescaped spelled else spelled
 
+-- the shown form of the name that stands in a line as `spelled`
+abbrev pub shown_of : Bool → List ℕ → List ℕ
+shown_of marked spelled = if marked then 92 ∷ spelled else spelled
+
 -- how the parts of a line lie in what follows its mark: whether that has too few bytes for them, the digits,
 -- whether what must stand between digits and name does, and the name as it stands
 pub record Layout : Type 0 where

@@ -3,8 +3,8 @@
 ghost use Rattle.std.specs.Prelude.{◌≡◌, ◌+◌, ◌<◌, ◌↔◌, ◌&&◌, Bool, List, ℕ, Some, None, IsNone, IfSome, IsTrue, true, false, length, IfOk, IfErr, IsErrOf, MatchResult};
 ghost use Rattle.std.specs.String.{string_bytes};
 ghost use Rattle.b3_lines.specs.Names.{has_bad_escape, unescaped};
-ghost use Rattle.b3_lines.specs.Parts.{AreParts, HasParts, IsCut, shown_of};
-ghost use Rattle.b3_lines.specs.Reading.{HasOneForm, HasOneOutcome, IsReadAs, after_mark, first_refusal, has_mark, is_tagged, layout_of, name_of, plain_layout, refusal_after_mark, refusal_of, tagged_layout, without_return};
+ghost use Rattle.b3_lines.specs.Parts.{AreParts, HasParts, IsCut};
+ghost use Rattle.b3_lines.specs.Reading.{HasOneForm, HasOneOutcome, IsReadAs, after_mark, first_refusal, has_mark, is_tagged, layout_of, name_of, plain_layout, refusal_after_mark, refusal_of, shown_of, tagged_layout, without_return};
 
 use crate::fault::LineFault;
 use crate::names::{count_escapes, holds_bad_character, unescaped};
