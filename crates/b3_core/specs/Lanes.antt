@@ -1,4 +1,5 @@
--- Vectors of eight lanes, each a list of eight words, and what lanes are about.
+-- Eight compressions or chunks at once (BLAKE3 (2020), 2.2 and 2.4), a lane each: what lanes hold and what they are
+-- about, for private contracts alone. A vector is a list of eight words.
 use Rattle.std.specs.Prelude.{◌≡◌, ℕ, ◌+◌, ◌*◌, ◌<◌, List, [], ◌∷◌, length, map, take, drop, slice_index}
 use Rattle.std.specs.Prelude.{slice_index_or, bit_or, nat_eq, if◌then◌else◌}
 use Rattle.std.specs.Int.{w32, from_le_bytes}

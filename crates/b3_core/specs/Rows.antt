@@ -1,4 +1,5 @@
--- The state of a compression as four rows of four words: a step on whole rows is one on each column.
+-- The state of a compression (BLAKE3 (2020), 2.2) as four rows of four words, for private contracts alone: a step on
+-- whole rows is one on each column.
 use Rattle.std.specs.Prelude.{◌≡◌, ℕ, List, [], ◌∷◌, ◌++◌, length, map, slice_index}
 use Rattle.b3_core.specs.Compression.{half_g}
 

@@ -9,7 +9,8 @@ use Rattle.b3_core.specs.Tree.{top}
 use Rattle.b3_core.specs.declared.modes.Mode.{Mode}
 use Rattle.b3_core.specs.declared.nodes.Node.{Node}
 use Rattle.b3_hash.specs.declared.open_chunk.OpenChunk.{OpenChunk}
-use Rattle.b3_hash.specs.OpenChunks.{Begun, IsBegun, begun_len, begun_of}
+use Rattle.b3_hash.specs.OpenChunks.{Begun, IsBegun, begun_len}
+use Rattle.b3_hash.specs.Private.{begun_of}
 use Rattle.b3_hash.specs.Stacks.{stack_of, subtree}
 use Rattle.b3_hash.specs.ChunkHashers.{Chunks, EndsWithChunk, IsAllClosed, chunks_len}
 use Rattle.b3_hash.specs.declared.window.Window.{Window}

@@ -1,4 +1,4 @@
--- What an incremental hasher keeps of chunks that came by their bytes, and of which bytes that is.
+-- What an incremental hasher (BLAKE3 (2020), 5.1) keeps of chunks that came by their bytes, and of which bytes that is.
 use Rattle.std.specs.Prelude.{◌≡◌, ℕ, ◌+◌, ◌*◌, ◌<◌, ◌≤◌, List, [], length, drop}
 use Rattle.b3_core.specs.Chunks.{chunk_len}
 use Rattle.b3_core.specs.declared.modes.Mode.{Mode}

@@ -1,4 +1,4 @@
--- What lists of calls come to.
+-- Lists of calls: the pieces of an input as one, and what reads of its output (BLAKE3 (2020), 2.6) give together.
 use Rattle.std.specs.Prelude.{ℕ, List, flat_map}
 use Rattle.std.specs.Borrow.{Bor}
 use Rattle.b3_core.specs.Output.{output_bytes}

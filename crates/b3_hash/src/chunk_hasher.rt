@@ -23,7 +23,7 @@ impl Model for ChunkHasher {
     ghost Value = { Chunks };
 
     ghost use Rattle.std.specs.Prelude.{◌+◌, ◌*◌, ◌^◌, ◌<◌};
-    ghost use Rattle.b3_hash.specs.OpenChunks.{begun_of};
+    ghost use Rattle.b3_hash.specs.Private.{begun_of};
 
     ghost view = { λ s. record {
       mode = s.mode;
@@ -38,8 +38,9 @@ impl Model for ChunkHasher {
 impl ChunkHasher {
     ghost use Rattle.b3_core.specs.Tree.{top};
     ghost use Rattle.b3_hash.specs.ChunkHashers.{EndsWithChunk, IsAllClosed, chunks_len};
-    ghost use Rattle.b3_hash.specs.Hashers.{EndsWith, IsWellHeld, window_len};
+    ghost use Rattle.b3_hash.specs.Hashers.{EndsWith, window_len};
     ghost use Rattle.b3_hash.specs.OpenChunks.{begun_len};
+    ghost use Rattle.b3_hash.specs.Private.{IsWellHeld};
 
     // Of no bytes.
     pub(crate) fn new(mode: Mode) -> ChunkHasher

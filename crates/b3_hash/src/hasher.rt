@@ -71,7 +71,8 @@ impl fmt::Debug for Hasher {
 }
 
 impl Model for Hasher {
-    ghost use Rattle.b3_hash.specs.Hashers.{State, IsWellHeld};
+    ghost use Rattle.b3_hash.specs.Hashers.{State};
+    ghost use Rattle.b3_hash.specs.Private.{IsWellHeld};
 
     ghost Value = { State };
 

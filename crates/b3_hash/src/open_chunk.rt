@@ -20,7 +20,8 @@ pub(crate) struct OpenChunk {
 impl OpenChunk {
     ghost use Rattle.b3_core.specs.Chunks.{chunk_node};
     ghost use Rattle.b3_core.specs.declared.modes.Mode.{Mode};
-    ghost use Rattle.b3_hash.specs.OpenChunks.{HasBytes, IsBegun, begun_of};
+    ghost use Rattle.b3_hash.specs.OpenChunks.{HasBytes, IsBegun};
+    ghost use Rattle.b3_hash.specs.Private.{begun_of};
 
     // A chunk of no bytes.
     pub(crate) fn new(mode: &Mode) -> OpenChunk

@@ -1,5 +1,5 @@
 use Rattle.std.proofs.Common.{◌≡◌, ◌<◌, ◌≤◌, ◌^◌, [], length, sym, ap, subst, arith}
-use Rattle.b3_hash.specs.OpenChunks.{begun_of}
+use Rattle.b3_hash.specs.Private.{begun_of}
 use Rattle.b3_hash.specs.ChunkHashers.{IsAllClosed, Chunks}
 use Rattle.b3_hash.proofs.Standing.{EndsWithChunk-begin, EndsWithWindow-begin}
 use Rattle.b3_hash.proofs.chunk_hasher.ChunkHasher.append_chunks.Goals as goal

@@ -1,6 +1,7 @@
 use Rattle.std.proofs.Common.{◌≡◌, ◌≤◌, ◌*◌, length, drop, sym, ap, subst, ◌∙◌, arith}
 use Rattle.std.proofs.lemmas.List.{length-drop}
-use Rattle.b3_hash.specs.OpenChunks.{begun_len, begun_of}
+use Rattle.b3_hash.specs.OpenChunks.{begun_len}
+use Rattle.b3_hash.specs.Private.{begun_of}
 use Rattle.b3_hash.specs.ChunkHashers.{EndsWithChunk, Chunks}
 use Rattle.b3_hash.proofs.Runs.{subtree-chunk}
 use Rattle.b3_hash.proofs.Standing.{IsAllClosed-close, length-EndsWithChunk}

@@ -1,5 +1,6 @@
 use Rattle.std.proofs.Common.{◌*◌, drop, sym, ap, subst, arith}
-use Rattle.b3_hash.specs.OpenChunks.{begun_len, begun_of}
+use Rattle.b3_hash.specs.OpenChunks.{begun_len}
+use Rattle.b3_hash.specs.Private.{begun_of}
 use Rattle.b3_hash.specs.ChunkHashers.{EndsWithChunk, Chunks}
 use Rattle.b3_hash.proofs.Standing.{EndsWithChunk-append}
 use Rattle.b3_hash.proofs.chunk_hasher.ChunkHasher.extend_chunk.Goals as goal

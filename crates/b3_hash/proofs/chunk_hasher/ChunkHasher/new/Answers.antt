@@ -1,6 +1,7 @@
 use Rattle.std.proofs.Common.{◌*◌, ◌∙◌, [], ap, sym, subst, arith}
 use Rattle.std.proofs.lemmas.List.{drop_all}
-use Rattle.b3_hash.specs.OpenChunks.{IsBegun, begun_of}
+use Rattle.b3_hash.specs.OpenChunks.{IsBegun}
+use Rattle.b3_hash.specs.Private.{begun_of}
 use Rattle.b3_hash.specs.Stacks.{stack_of}
 use Rattle.b3_hash.proofs.Merging.{stack_of-none}
 use Rattle.b3_hash.proofs.chunk_hasher.ChunkHasher.new.Goals as goal

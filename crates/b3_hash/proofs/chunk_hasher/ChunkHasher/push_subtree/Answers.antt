@@ -1,6 +1,6 @@
 use Rattle.std.proofs.Common.{◌≡◌, ◌%◌, ◌^◌, sym, subst}
 use Rattle.b3_core.specs.Tree.{top}
-use Rattle.b3_hash.specs.OpenChunks.{begun_of}
+use Rattle.b3_hash.specs.Private.{begun_of}
 use Rattle.b3_hash.specs.ChunkHashers.{IsAllClosed, Chunks}
 use Rattle.b3_hash.proofs.Standing.{IsAllClosed-push}
 use Rattle.b3_hash.proofs.chunk_hasher.ChunkHasher.push_subtree.Goals as goal

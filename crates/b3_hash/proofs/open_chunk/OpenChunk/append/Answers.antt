@@ -1,6 +1,7 @@
 use Rattle.std.proofs.Common.{◌≡◌, ◌-◌, ◌<◌, ◌≤◌, ◌++◌, ◌∙◌, length, take, drop, ap, subst, append_assoc, arith}
 use Rattle.std.proofs.lemmas.List.{length-drop, length-take}
-use Rattle.b3_hash.specs.OpenChunks.{IsBegun, begun_of}
+use Rattle.b3_hash.specs.OpenChunks.{IsBegun}
+use Rattle.b3_hash.specs.Private.{begun_of}
 use Rattle.b3_hash.proofs.BegunChunks.{IsBegun-open, take-piece}
 use Rattle.b3_hash.proofs.open_chunk.OpenChunk.append.Goals as goal
 

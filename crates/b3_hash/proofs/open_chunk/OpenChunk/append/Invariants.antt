@@ -1,5 +1,6 @@
 use Rattle.std.proofs.Common.{◌≡◌, ℕ, ◌+◌, ◌-◌, ◌*◌, ◌≤◌, ◌++◌, List, length, take}
-use Rattle.b3_hash.specs.OpenChunks.{IsBegun, begun_of}
+use Rattle.b3_hash.specs.OpenChunks.{IsBegun}
+use Rattle.b3_hash.specs.Private.{begun_of}
 use Rattle.b3_hash.proofs.open_chunk.OpenChunk.append.Given as goal
 
 abbrev pub invariant-loop-at : goal.invariant-loop-at

@@ -1,7 +1,7 @@
 use Rattle.std.proofs.Common.{◌≡◌, ◌+◌, ◌-◌, ap, take, ◌∙◌, ◌++◌, length, arith, refl}
 use Rattle.std.proofs.lemmas.Slice.{take-put_mid}
 use borrow.Rule.Slice.PartMut.{put_mid}
-use Rattle.b3_hash.specs.OpenChunks.{begun_of}
+use Rattle.b3_hash.specs.Private.{begun_of}
 use Rattle.b3_hash.proofs.BegunChunks.{HasBytes-append}
 use Rattle.b3_hash.proofs.open_chunk.OpenChunk.extend_block.Goals as goal
 
