@@ -87,11 +87,11 @@ impl ChunkHasher {
         ensures ends_with { (before : List ℕ) → EndsWithChunk self.old before
             → EndsWith self.new result (before ++ input.now) }
     {
-        let begun = self.last.len();
-        if begun == 0 {
+        let filled = self.last.len();
+        if filled == 0 {
             return self.append_chunks(input);
         }
-        let (front, rest) = input.split_at(input.len().min(CHUNK_LEN - begun));
+        let (front, rest) = input.split_at(input.len().min(CHUNK_LEN - filled));
         self.extend_chunk(front);
         // Where no byte is left, the chunk stays open, also a full one: it may be the root.
         if rest.is_empty() {

@@ -7,8 +7,8 @@ use Rattle.b3_hash.specs.Hashers.{EndsWith}
 use Rattle.b3_hash.proofs.Standing.{IsAllClosed-none, begun_len-begun_of, length-EndsWithChunk}
 use Rattle.b3_hash.proofs.chunk_hasher.ChunkHasher.append.Goals as goal
 
-pub returns-then-begun-eq0-clause-ends_with : goal.returns-then-begun-eq0-clause-ends_with
-returns-then-begun-eq0-clause-ends_with c = λ before held.
+pub returns-then-filled-eq0-clause-ends_with : goal.returns-then-filled-eq0-clause-ends_with
+returns-then-filled-eq0-clause-ends_with c = λ before held.
     let empty : begun_len c.args.self.now.begun ≡ 0 =
     omega (arith, begun_len-begun_of c.self.inside.last, ap (λ (s : Chunks). begun_len s.begun) c.self.view_is) in
     let len = length-EndsWithChunk c.args.self.now before held in
