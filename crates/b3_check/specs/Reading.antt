@@ -15,12 +15,11 @@ use Rattle.b3_check.specs.declared.options.KeyChoice.{KeyChoice}
 use Rattle.b3_check.specs.declared.options.KeyChoice.TheVariants.{Plain, Keyed, Derive}
 use Rattle.b3_check.specs.declared.options.Limits.{Limits}
 use Rattle.b3_check.specs.declared.shelf.NoContent.{NoContent}
-use Rattle.b3_check.specs.Contents.{Contents}
+use Rattle.b3_check.specs.Contents.{Contents, input_name}
 use Rattle.b3_check.specs.Digests.{digest_of}
 use Rattle.b3_check.specs.Runs.{Broke, IsEndless, Scene, Went}
 use Rattle.b3_check.specs.Scripts.{AgreesWith, Answer, Given, Kind, given_map, nothing}
 use Rattle.b3_check.specs.Scripts.Kind.{Hashed, Key}
-use Rattle.b3_check.specs.Sums.{key_name}
 
 -- what was found, where the whole content was read
 abbrev pub found_if : Given ⊤ → List ℕ → Given (List ℕ)
@@ -114,20 +113,20 @@ key_answer key = given_map key_bytes key
 -- the key was asked for and is 32 bytes, and this is its mode
 pub record FoundKey (mode : Mode) (before after : Scene) : Type 0 where
   pub key : List ℕ
-  pub answered : Answered Key key_name (Ok key) before after
+  pub answered : Answered Key input_name (Ok key) before after
   pub len : length key ≡ 32
   pub is : mode ≡ keyed_mode key
 
 -- the key was asked for and is not 32 bytes
 pub record FoundBadKey (before after : Scene) : Type 0 where
   pub key : List ℕ
-  pub answered : Answered Key key_name (Ok key) before after
+  pub answered : Answered Key input_name (Ok key) before after
   pub len : length key ≢ 32
 
 -- the key was asked for and cannot be read
 pub record FoundNoKey (before after : Scene) : Type 0 where
   pub why : NoContent
-  pub answered : Answered Key key_name (Err why) before after
+  pub answered : Answered Key input_name (Err why) before after
 
 -- the mode of a choice of key
 abbrev pub FoundMode : KeyChoice → Mode → Scene → Scene → Type 0

@@ -1,11 +1,11 @@
 //! Where a run reads and writes.
 
 ghost use Rattle.std.specs.Prelude.{◌≡◌, ◌-◌, ◌^◌, ◌<◌, ◌≤◌, OnOk, vec_len};
+ghost use Rattle.b3_check.specs.Contents.{input_name};
 ghost use Rattle.b3_check.specs.Owing.{SaysOwing, on_out};
 ghost use Rattle.b3_check.specs.Reading.{Answered, Asks, Hashes, key_answer};
 ghost use Rattle.b3_check.specs.Runs.{HasRoom};
 ghost use Rattle.b3_check.specs.Scripts.Kind.{Key, Listed};
-ghost use Rattle.b3_check.specs.Sums.{key_name};
 ghost use Rattle.b3_check.specs.Tasks.{Says, report_of};
 
 use crate::digester::Digester;
@@ -72,7 +72,7 @@ impl<'s, 'o, 'e, S: Shelf + Send + Sync, O: Sink, E: Sink> Devices<'s, 'o, 'e, S
     /// Reads the key, or answers why it cannot be read.
     pub fn read_key(&mut self) -> Result<KeyRead, NoContent>
         requires { HasRoom (scene_of S.Shelf O.Sink E.Sink self.old) 1 }
-        ensures answered { Answered Key key_name (key_answer result) (scene_of S.Shelf O.Sink E.Sink self.old)
+        ensures answered { Answered Key input_name (key_answer result) (scene_of S.Shelf O.Sink E.Sink self.old)
             (scene_of S.Shelf O.Sink E.Sink self.new) }
         ensures loans { loans self.new ≡ loans self.old }
     {

@@ -36,7 +36,7 @@ pub use judging::{Answer, Verdict, judge};
 pub use memory_shelf::MemoryShelf;
 pub use memory_sink::MemorySink;
 pub use options::{CheckOptions, Form, KeyChoice, MAX_OUTPUT_LEN, SumOptions};
-pub use shelf::{CannotRead, NoContent, Shelf};
+pub use shelf::{CannotRead, INPUT_NAME, NoContent, Shelf};
 pub use sink::{Sink, SinkFailed};
 pub use sum::run_sum;
 pub use tally::Tally;

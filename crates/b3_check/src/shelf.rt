@@ -4,6 +4,9 @@ ghost use Rattle.b3_hash.specs.Hashers.{StandsFor, mode_of};
 
 use b3_hash::Hasher;
 
+/// The name that stands for standard input. A key is read from it.
+pub const INPUT_NAME: &str = "-";
+
 /// Why a name gives no content.
 #[derive(Clone, Copy, Debug, PartialEq, Eq)]
 pub enum NoContent {

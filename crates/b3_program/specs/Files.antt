@@ -1,6 +1,6 @@
 -- What a shelf of files reads, and what it tells.
-use Rattle.std.specs.Prelude.{ℕ, ◌+◌, ◌&&◌, Bool, true, false, if◌then◌else◌, List, [], drop, Option, None, Some, bytes_eq, codes}
-use Rattle.b3_check.specs.Contents.{Contents}
+use Rattle.std.specs.Prelude.{ℕ, ◌+◌, ◌&&◌, Bool, true, false, if◌then◌else◌, List, [], drop, Option, None, Some, bytes_eq}
+use Rattle.b3_check.specs.Contents.{Contents, input_name}
 use Rattle.b3_program.specs.declared.input.InputFile.{InputFile}
 use Rattle.b3_program.specs.declared.source.Source.{Source}
 use Rattle.b3_program.specs.declared.source.Source.TheVariants.{Nothing, Input, Reopened, Opened}
@@ -72,6 +72,6 @@ abbrev pub told_if : Bool → Contents → Option Contents
 told_if true contents = Some contents
 told_if false contents = None
 
--- the contents of a disk, with an input under the name `-`
+-- the contents of a disk, with an input under its name
 abbrev pub contents_with : Contents → List ℕ → Contents
-contents_with contents input name = if bytes_eq name (codes "-") then Some input else contents name
+contents_with contents input name = if bytes_eq name input_name then Some input else contents name

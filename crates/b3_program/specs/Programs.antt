@@ -1,11 +1,11 @@
 -- What a call of the program does, from its words on.
-use Rattle.std.specs.Prelude.{◌≡◌, ◌⊎◌, ◌^◌, ◌≤◌, ℕ, List, [], ◌∷◌, All, Bool, Option, None, Some, Result, MatchResult, codes, length, map, string_bytes}
+use Rattle.std.specs.Prelude.{◌≡◌, ◌⊎◌, ◌^◌, ◌≤◌, ℕ, List, [], ◌∷◌, All, Bool, Option, None, Some, Result, MatchResult, length, map, string_bytes}
 use Rattle.b3_check.specs.declared.fault.RunFault.{RunFault}
 use Rattle.b3_check.specs.declared.options.Form.TheVariants.{Raw}
 use Rattle.b3_check.specs.declared.options.Limits.{Limits}
 use Rattle.b3_check.specs.declared.tally.Tally.{Tally}
 use Rattle.b3_check.specs.Checks.{check_script}
-use Rattle.b3_check.specs.Contents.{Contents}
+use Rattle.b3_check.specs.Contents.{Contents, input_name}
 use Rattle.b3_check.specs.Faults.{fault_text}
 use Rattle.b3_check.specs.Laws.{ChecksRightly, ListIsVerified, SumsRightly, WritesAll}
 use Rattle.b3_check.specs.Options.{CanCheck, CanRun, check_limits, limits_of}
@@ -23,7 +23,7 @@ use Rattle.b3_program.specs.declared.words.Words.{Words}
 
 -- the names that are read: the files, or standard input where there are none
 abbrev pub names_of : List (List ℕ) → List (List ℕ)
-names_of [] = codes "-" ∷ []
+names_of [] = input_name ∷ []
 names_of (file ∷ files) = file ∷ files
 
 -- the script of a task

@@ -3,6 +3,7 @@ use Rattle.std.specs.Prelude.{ℕ, ◌+◌, ◌-◌, ◌^◌, List, [], ◌∷�
 use Rattle.std.specs.Global.{Global}
 use Rattle.std.specs.List.{list_any}
 use Rattle.std.specs.Option.{option_map}
+use Rattle.b3_check.specs.Contents.{input_name}
 use Rattle.b3_program.specs.declared.usage.Usage.{Usage}
 use Rattle.b3_program.specs.declared.usage.Usage.TheVariants.{CheckExcludes, TwoKeys, QuietAlone, RawOne, KeyNeedsFiles, TagExcludes, SeekPastEnd, IgnoreMissingAlone, StatusAlone, StrictAlone, WarnAlone}
 use Rattle.b3_program.specs.declared.words.Words.{Words}
@@ -71,7 +72,7 @@ first_given (option ∷ options) = if option.0 then Some option.1 else first_giv
 
 -- whether a file is standard input
 abbrev pub is_input : String Global → Bool
-is_input file = bytes_eq (string_bytes file) (codes "-")
+is_input file = bytes_eq (string_bytes file) input_name
 
 -- whether standard input is to be hashed: it is named, or nothing is
 abbrev pub hashes_input : Words → Bool

@@ -1,6 +1,6 @@
-ghost use Rattle.std.specs.Prelude.{◌≡◌, ◌≢◌, ◌↔◌, ◌+◌, ◌-◌, ◌^◌, ◌<◌, ◌≤◌, ◌&&◌, [], true, false, Some, None, Err, IsTrue, IsSome, IsOk, OnOk, OnErr, IfOk, IfErr, IfSome, codes, length, take, drop, is_err, is_ok, is_some, if◌then◌else◌};
+ghost use Rattle.std.specs.Prelude.{◌≡◌, ◌≢◌, ◌↔◌, ◌+◌, ◌-◌, ◌^◌, ◌<◌, ◌≤◌, ◌&&◌, [], true, false, Some, None, Err, IsTrue, IsSome, IsOk, OnOk, OnErr, IfOk, IfErr, IfSome, length, take, drop, is_err, is_ok, is_some, if◌then◌else◌};
 ghost use Rattle.std.specs.IoError.{error_kind};
-ghost use Rattle.b3_check.specs.Contents.{Gives, HasContent, StandsForContent, LacksContent};
+ghost use Rattle.b3_check.specs.Contents.{Gives, HasContent, StandsForContent, LacksContent, input_name};
 ghost use Rattle.b3_check.specs.declared.shelf.NoContent.TheVariants.{Missing};
 ghost use Rattle.b3_hash.specs.Hashers.{StandsFor, mode_of};
 ghost use Rattle.b3_program.specs.Disks.{IsOfMissing, IsRefusedBy};
@@ -9,14 +9,11 @@ ghost use Rattle.b3_program.specs.Files.{file_side, contents_with, input_side, i
 use crate::disk::{Disk, DiskFile, Input};
 use crate::retrying::fill_at;
 use crate::source::Source;
-use b3_check::{CannotRead, NoContent, Shelf};
+use b3_check::{CannotRead, INPUT_NAME, NoContent, Shelf};
 use b3_hash::Hasher;
 use std::io::{self, ErrorKind};
 
-/// The name that stands for standard input.
-const INPUT_NAME: &str = "-";
-
-/// The files of a disk, with an input under the name `-`, which can be begun once.
+/// The files of a disk, with an input under its name, which can be begun once.
 #[derive(Drop)]
 pub struct FileShelf<D: Disk, I: Input> {
     disk: D,
@@ -159,13 +156,13 @@ impl<D: Disk, I: Input> Shelf for FileShelf<D, I> {
             ≡ Some (source_left D.File.content I.content I.position I.File.content self.new.source self.new.given)) }
         ensures missing { IsTrue D.File.tells → result ≡ Err Missing
             → contents_with (D.contents self.old.disk) (rest_of I.content I.position self.old.input) name.now ≡ None }
-        ensures refused { name.now ≢ codes "-" → IfErr result (IsRefusedBy (D.fails_by self.old.disk name.now)) }
+        ensures refused { name.now ≢ input_name → IfErr result (IsRefusedBy (D.fails_by self.old.disk name.now)) }
 
         // The input can be begun once, and is never missing; no other name takes it.
-        ensures input { name.now ≡ codes "-" → (IsOk result ↔ (self.old.is_input_taken ≡ false)) }
-        ensures input_there { name.now ≡ codes "-" → result ≢ Err Missing }
-        ensures input_taken { name.now ≡ codes "-" → self.new.is_input_taken ≡ true }
-        ensures other { name.now ≢ codes "-" → self.new.is_input_taken ≡ self.old.is_input_taken }
+        ensures input { name.now ≡ input_name → (IsOk result ↔ (self.old.is_input_taken ≡ false)) }
+        ensures input_there { name.now ≡ input_name → result ≢ Err Missing }
+        ensures input_taken { name.now ≡ input_name → self.new.is_input_taken ≡ true }
+        ensures other { name.now ≢ input_name → self.new.is_input_taken ≡ self.old.is_input_taken }
         ensures disk { self.new.disk ≡ self.old.disk }
         ensures unread { self.new.input ≡ self.old.input }
     {

@@ -10,7 +10,7 @@ use crate::stop::{FAILURE, USAGE};
 use crate::task::{Task, settle};
 use crate::words::Words;
 use b3_board::Gate;
-use b3_check::{RunFault, Shelf, Sink, Tally, run_check, run_sum};
+use b3_check::{INPUT_NAME, RunFault, Shelf, Sink, Tally, run_check, run_sum};
 use std::alloc::{AllocError, Global};
 use std::sync::Wait;
 use std::thread::Threads;
@@ -124,6 +124,6 @@ fn names_of(alloc: Global, files: Vec<String>) -> Result<Vec<String>, AllocError
         return Ok(files);
     }
     let mut names = Vec::new(alloc);
-    names.push(String::from_str(alloc, "-")?)?;
+    names.push(String::from_str(alloc, INPUT_NAME)?)?;
     Ok(names)
 }

@@ -7,7 +7,7 @@ ghost use Rattle.b3_program.specs.Usages.{excluded_by_check, excluded_by_tag, fi
 
 use crate::usage::Usage;
 use crate::words::Words;
-use b3_check::{CheckOptions, Form, KeyChoice, MAX_WORKERS, SumOptions};
+use b3_check::{CheckOptions, Form, INPUT_NAME, KeyChoice, MAX_WORKERS, SumOptions};
 
 /// The number of output bytes where no word says another.
 const DEFAULT_LENGTH: u32 = 32;
@@ -167,7 +167,7 @@ fn hashes_input(words: &Words) -> bool
 fn name_input(files: &[String]) -> bool
     ensures { result ≡ list_any is_input files.now }
 {
-    files.iter().any(|file| file.as_str() == "-")
+    files.iter().any(|file| file.as_str() == INPUT_NAME)
 }
 
 fn check_options(words: &Words) -> CheckOptions
