@@ -18,6 +18,7 @@ use Rattle.b3_check.specs.Scripts.{Answer, Given, Script, Report, in_turn, then_
 use Rattle.b3_check.specs.Scripts.Kind.{Listed}
 use Rattle.b3_check.specs.Scripts.Script.{Done, Say, Ask}
 use Rattle.b3_check.specs.Digests.{digest_script, line_range}
+use Rattle.b3_check.specs.Faults.{prefix}
 use Rattle.b3_check.specs.Sums.{complaint, line_feed}
 
 -- what a line that is not refused says: a digest, a name, and the name as it stands in the line
@@ -100,7 +101,7 @@ line_reason number reason = codes "line " ++ decimal number ++ codes ": " ++ rea
 abbrev pub refusal : CheckOptions → List ℕ → ℕ → List ℕ → List ℕ
 refusal options list number reason =
     if options.warn then complaint list (line_reason number reason)
-    else codes "b3sum: " ++ line_reason number reason ++ line_feed
+    else prefix ++ line_reason number reason ++ line_feed
 
 -- the line is malformed
 abbrev pub refused_report : CheckOptions → List ℕ → ℕ → LineFault → Report
@@ -168,7 +169,7 @@ mismatches failed =
 
 -- what is said where so many lines failed
 abbrev pub warning : ℕ → List ℕ
-warning failed = if failed == 0 then [] else codes "b3sum: WARNING: " ++ decimal failed ++ mismatches failed
+warning failed = if failed == 0 then [] else prefix ++ codes "WARNING: " ++ decimal failed ++ mismatches failed
     ++ line_feed
 
 -- the warning after the last list

@@ -15,6 +15,7 @@ use Rattle.b3_check.specs.declared.options.Form.TheVariants.{Named, Bare, Raw, T
 use Rattle.b3_check.specs.declared.options.KeyChoice.{KeyChoice}
 use Rattle.b3_check.specs.declared.options.KeyChoice.TheVariants.{Plain, Keyed, Derive}
 use Rattle.b3_check.specs.Contents.{input_name}
+use Rattle.b3_check.specs.Faults.{prefix}
 use Rattle.b3_check.specs.Tallies.{one_failed, one_ok}
 use Rattle.b3_check.specs.Scripts.{Answer, Given, Script, Report, in_turn}
 use Rattle.b3_check.specs.Scripts.Kind.{Key}
@@ -27,7 +28,7 @@ line_feed = 10 ∷ []
 
 -- what is said of a name that has no line: its shown form, and why
 abbrev pub complaint : List ℕ → List ℕ → List ℕ
-complaint name why = codes "b3sum: " ++ shown name ++ codes ": " ++ why ++ line_feed
+complaint name why = prefix ++ shown name ++ codes ": " ++ why ++ line_feed
 
 -- a name that gives no digest fails
 abbrev pub failed_report : List ℕ → List ℕ → Report

@@ -22,6 +22,7 @@ mod name_hasher;
 mod options;
 mod output_range;
 mod pool;
+mod prefix;
 mod prefetch;
 mod shelf;
 mod sink;

@@ -1,9 +1,9 @@
 -- How a call ends that reads nothing.
-use Rattle.std.specs.Prelude.{◌≡◌, ◌≢◌, ℕ, List, Bool, true, false, codes, string_bytes}
+use Rattle.std.specs.Prelude.{◌≡◌, ◌≢◌, ℕ, List, ◌++◌, Bool, true, false, codes, string_bytes}
 use Rattle.std.specs.IoError.{error_kind}
 use Rattle.std.specs.declared.io.Error.{Error}
 use Rattle.std.specs.declared.io.ErrorKind.TheVariants.{InvalidData}
-use Rattle.b3_check.specs.Faults.{fault_text}
+use Rattle.b3_check.specs.Faults.{fault_text, prefix}
 use Rattle.b3_check.specs.Runs.{Sheet}
 use Rattle.b3_check.specs.declared.fault.RunFault.TheVariants as RunFault
 use Rattle.b3_program.specs.Said.{IsSaid, line_of}
@@ -27,8 +27,8 @@ pub record Replies (text : List ℕ) (out err out_after err_after : Sheet) (stat
 
 -- which text is said where, and the status
 abbrev pub EndsBy : Stop → Sheet → Sheet → Sheet → Sheet → ℕ → Type 0
-EndsBy NotText = Complains (line_of (codes "b3sum: an argument is not text")) 2
-EndsBy TooManyFiles = Complains (line_of (codes "b3sum: too many files")) 2
+EndsBy NotText = Complains (line_of (prefix ++ codes "an argument is not text")) 2
+EndsBy TooManyFiles = Complains (line_of (prefix ++ codes "too many files")) 2
 EndsBy Memory = Complains (line_of (fault_text RunFault.Memory)) 1
 EndsBy (Refused text) = Complains (string_bytes text) 2
 EndsBy (Asked text) = Replies (string_bytes text)

@@ -4,6 +4,7 @@ use Rattle.std.specs.Global.{Global}
 use Rattle.std.specs.List.{list_any}
 use Rattle.std.specs.Option.{option_map}
 use Rattle.b3_check.specs.Contents.{input_name}
+use Rattle.b3_check.specs.Faults.{prefix}
 use Rattle.b3_program.specs.declared.usage.Usage.{Usage}
 use Rattle.b3_program.specs.declared.usage.Usage.TheVariants.{CheckExcludes, TwoKeys, QuietAlone, RawOne, KeyNeedsFiles, TagExcludes, SeekPastEnd, IgnoreMissingAlone, StatusAlone, StrictAlone, WarnAlone}
 use Rattle.b3_program.specs.declared.words.Words.{Words}
@@ -37,17 +38,17 @@ refusal_of WarnAlone = WarnWithoutCheck
 
 -- the text of a refusal, without a line feed
 abbrev pub refusal_text : Refusal → List ℕ
-refusal_text (CheckExcluded option) = codes "b3sum: --check cannot be used with " ++ option
-refusal_text KeyedTwice = codes "b3sum: --keyed cannot be used with --derive-key"
-refusal_text QuietWithoutCheck = codes "b3sum: --quiet needs --check"
-refusal_text RawOfMany = codes "b3sum: --raw takes one input"
-refusal_text KeyedWithoutFiles = codes "b3sum: --keyed needs files"
-refusal_text (TagExcluded option) = codes "b3sum: --tag cannot be used with " ++ option
-refusal_text PastEnd = codes "b3sum: --seek and --length pass the end of the output"
-refusal_text IgnoreMissingWithoutCheck = codes "b3sum: --ignore-missing needs --check"
-refusal_text StatusWithoutCheck = codes "b3sum: --status needs --check"
-refusal_text StrictWithoutCheck = codes "b3sum: --strict needs --check"
-refusal_text WarnWithoutCheck = codes "b3sum: --warn needs --check"
+refusal_text (CheckExcluded option) = prefix ++ codes "--check cannot be used with " ++ option
+refusal_text KeyedTwice = prefix ++ codes "--keyed cannot be used with --derive-key"
+refusal_text QuietWithoutCheck = prefix ++ codes "--quiet needs --check"
+refusal_text RawOfMany = prefix ++ codes "--raw takes one input"
+refusal_text KeyedWithoutFiles = prefix ++ codes "--keyed needs files"
+refusal_text (TagExcluded option) = prefix ++ codes "--tag cannot be used with " ++ option
+refusal_text PastEnd = prefix ++ codes "--seek and --length pass the end of the output"
+refusal_text IgnoreMissingWithoutCheck = prefix ++ codes "--ignore-missing needs --check"
+refusal_text StatusWithoutCheck = prefix ++ codes "--status needs --check"
+refusal_text StrictWithoutCheck = prefix ++ codes "--strict needs --check"
+refusal_text WarnWithoutCheck = prefix ++ codes "--warn needs --check"
 
 -- the options that a check excludes, and whether each is given
 abbrev pub excluded_by_check : Words → List (Bool × List ℕ)

@@ -1,7 +1,7 @@
 ghost use Rattle.std.specs.Prelude.{◌≡◌, ◌+◌, ◌-◌, ◌^◌, ◌<◌};
 
 use crate::say::{say, say_line};
-use b3_check::{RunFault, Sink};
+use b3_check::{RunFault, Sink, prefixed};
 use std::alloc::AllocError;
 use std::io;
 
@@ -39,11 +39,11 @@ impl Stop {
     {
         match self {
             Stop::NotText => {
-                say_line(err, "b3sum: an argument is not text", "");
+                say_line(err, prefixed!("an argument is not text"), "");
                 USAGE
             }
             Stop::TooManyFiles => {
-                say_line(err, "b3sum: too many files", "");
+                say_line(err, prefixed!("too many files"), "");
                 USAGE
             }
             Stop::Memory => {
