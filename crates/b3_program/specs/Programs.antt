@@ -16,7 +16,7 @@ use Rattle.b3_check.specs.Sums.{sum_script}
 use Rattle.b3_check.specs.Tallies.{status_of}
 use Rattle.b3_program.specs.Said.{IsSaid, line_of}
 use Rattle.b3_program.specs.Tasks.{task_for}
-use Rattle.b3_program.specs.Usages.{Refusal, refusal_for, refusal_text}
+use Rattle.b3_program.specs.Usages.{refusal_for}
 use Rattle.b3_program.specs.declared.task.Task.{Task}
 use Rattle.b3_program.specs.declared.task.Task.TheVariants.{Sum, Check}
 use Rattle.b3_program.specs.declared.words.Words.{Words}
@@ -46,10 +46,10 @@ CanDo (Check options files) = CanCheck options × (length files.items ≤ 2 ^ 30
 abbrev pub with_err : Scene → Sheet → Scene
 with_err scene err = record scene { err = err }
 
--- the words are refused: that is said, and nothing else is done
-pub record EndsRefused (refusal : Refusal) (before after : Scene) (status : ℕ) : Type 0 where
+-- the words are refused: this is said, and nothing else is done
+pub record EndsRefused (text : List ℕ) (before after : Scene) (status : ℕ) : Type 0 where
   pub whole : Bool
-  pub said : IsSaid before.err after.err (line_of (refusal_text refusal)) whole
+  pub said : IsSaid before.err after.err (line_of text) whole
   pub kept : with_err after before.err ≡ before
   pub status_is : status ≡ 2
 
@@ -75,9 +75,9 @@ DoesTask task before after status =
     EndsWell (script_of task) before after status ⊎ EndsAtFault (limits_for task) (script_of task) before after status
 
 -- the words are refused, or their task is done
-abbrev pub EndsAs : Option Refusal → Task → Scene → Scene → ℕ → Type 0
+abbrev pub EndsAs : Option (List ℕ) → Task → Scene → Scene → ℕ → Type 0
 EndsAs None task = DoesTask task
-EndsAs (Some refusal) task = EndsRefused refusal
+EndsAs (Some text) task = EndsRefused text
 
 abbrev pub Ends : Words → Scene → Scene → ℕ → Type 0
 Ends words = EndsAs (refusal_for words) (task_for words)

@@ -30,11 +30,11 @@ pub enum Usage {
 }
 
 impl Usage {
-    ghost use Rattle.b3_program.specs.Usages.{refusal_of, refusal_text};
+    ghost use Rattle.b3_program.specs.Usages.{usage_text};
 
     /// The text for the user, without a line feed: its beginning, and the option that it ends with.
     pub fn text(&self) -> (&'static str, &'static str)
-        ensures { result.0.now ++ result.1.now ≡ refusal_text (refusal_of self.now) }
+        ensures { result.0.now ++ result.1.now ≡ usage_text self.now }
     {
         match *self {
             Usage::CheckExcludes(option) => (prefixed!("--check cannot be used with "), option),
