@@ -9,7 +9,8 @@ use mathlib.Core.Logic.{dite}
 use native.Mathlib.Decide.{ℕ_discrete}
 use lib.ListN.{get_elem?}
 use Rattle.b3_board.specs.declared.claim_rule.View.{View}
-use Rattle.b3_board.specs.Claiming.{one_if, times, has, united, spent, tried, one_less, one_part, joined, Knows, AreLawful, IsSound}
+use Rattle.b3_board.specs.Claiming.{one_if, times, has, united, tried, one_less, one_part, joined}
+use Rattle.b3_board.specs.ClaimRule.{spent, Knows, AreLawful, IsSound}
 use Rattle.b3_board.proofs.ClaimedIndexes.{All-times, has-set_kept, has-set_other, has-set_same, has-united_left, has-united_right, has_from_united, length-le_from_times, length-united, times-append, times-push_other, times-push_same}
 use Rattle.b3_board.proofs.ClaimWords.{once_from_swap, word-set_bit, word-set_kept, word-set_other, word-set_same, word-set_spare}
 use Rattle.b3_board.proofs.ListPlaces.{All-get_elem?, at-le-sum_by, sum_by-alone, sum_by-set_at}

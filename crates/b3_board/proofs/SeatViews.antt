@@ -4,8 +4,9 @@ use Rattle.std.specs.Prelude.{Result, Ok, Err, IsOk, OnOk}
 use Rattle.atomic_table.specs.Seated.{TableId}
 use Rattle.atomic_table.specs.Table.{Me}
 use Rattle.b3_board.specs.declared.claim_rule.View.{View}
-use Rattle.b3_board.specs.Claiming.{joined, tried, IsSound}
-use Rattle.b3_board.specs.Seats.{Indexes, Seated, IsSeatOf, KeepsSeat}
+use Rattle.b3_board.specs.Claiming.{joined, tried}
+use Rattle.b3_board.specs.ClaimRule.{IsSound, KeepsSeat}
+use Rattle.b3_board.specs.Seats.{Indexes, Seated, IsSeatOf}
 
 pub IsSeatOf-same : {x y : Indexes} {s t : Seated} → x ≡ y → s ≡ t → IsSeatOf y t → IsSeatOf x s
 IsSeatOf-same p q own = (

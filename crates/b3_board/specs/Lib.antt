@@ -8,4 +8,7 @@ pub mod RootNodes
 pub mod Entries
 pub mod Claiming
 pub mod Seats
+pub mod ClaimRule
 pub mod WorkerRuns
+pub mod SpanHashers
+pub mod WorkerStates

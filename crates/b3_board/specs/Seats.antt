@@ -1,7 +1,6 @@
 -- Claims and their seats, as contracts see them.
-use Rattle.std.specs.Prelude.{◌≡◌, ℕ, ◌<◌, ◌≤◌, List, [], ◌++◌, length, true}
+use Rattle.std.specs.Prelude.{◌≡◌, ℕ, ◌<◌, List, ◌++◌, length, true}
 use Rattle.atomic_table.specs.Seated.{TableId}
-use Rattle.atomic_table.specs.Table.{Me}
 use Rattle.b3_board.specs.Claiming.{has}
 use Rattle.b3_board.specs.declared.claim_rule.View.{View}
 
@@ -26,12 +25,3 @@ HasSeenAll n seat = (i : ℕ) → i < n → has seat.view.seen i ≡ true
 -- the list begins with the other one
 abbrev pub BeginsWith : List ℕ → List ℕ → Type 0
 BeginsWith list start = (rest : List ℕ) × (list ≡ start ++ rest)
-
--- what the fields of a seat keep: its parts and its list are those of what it knows, it has a part and no more
--- than all, and it holds no slot
-pub record KeepsSeat (me : Me (Unit {0}) View) (parts : ℕ) (claimed : List ℕ) : Type 0 where
-  pub parts_are : me.0.parts ≡ parts
-  pub list_is : me.0.claimed ≡ claimed
-  pub some : 0 < parts
-  pub most : parts ≤ 128
-  pub no_slot : me.1 ≡ []

@@ -5,7 +5,7 @@ ghost use Rattle.b3_core.specs.Tree.{chunks, top};
 ghost use Rattle.b3_core.specs.declared.tree.Span.{Span};
 ghost use Rattle.b3_board.specs.Pictures.{HasTopsOf, IsAscending, IsDeposit, IsLawful, IsOver, IsOwn, PiecesAreGreatest, begun, opened, piece_spans, size};
 ghost use Rattle.b3_board.specs.Plans.{IsCutting, IsPlanOf};
-ghost use Rattle.b3_board.specs.Regions.{span_of};
+ghost use Rattle.b3_board.specs.SpanHashers.{span_of};
 ghost use Rattle.b3_board.specs.Shares.{grown};
 ghost use Rattle.b3_board.specs.Spans.{IsRootOf, chunks_in, in_memory};
 ghost use Rattle.b3_board.specs.declared.board.Refused.TheVariants.{NotOpen, OtherBytes};

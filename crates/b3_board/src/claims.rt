@@ -39,7 +39,8 @@ pub struct Seat {
 }
 
 impl Model for Seat {
-    ghost use Rattle.b3_board.specs.Seats.{KeepsSeat, Seated};
+    ghost use Rattle.b3_board.specs.Seats.{Seated};
+    ghost use Rattle.b3_board.specs.ClaimRule.{KeepsSeat};
 
     ghost Value = { Seated };
 

@@ -3,7 +3,8 @@
 ghost use Rattle.std.specs.Prelude.{◌≡◌, ℕ, ◌+◌, ◌<◌, ◌≤◌, ◌^◌, [], All, length, sum, sum_by, vec_len, IfOk, IsTrue, ◌↔◌};
 ghost use Rattle.b3_board.specs.Seats.{HasSeenAll, IsSeatOf};
 ghost use Rattle.b3_board.specs.Spans.{chunks_in};
-ghost use Rattle.b3_board.specs.WorkerRuns.{HasEachOnce, HasEnded, IsNewState, seat_parts, share_parts};
+ghost use Rattle.b3_board.specs.WorkerRuns.{HasEachOnce};
+ghost use Rattle.b3_board.specs.WorkerStates.{HasEnded, IsNewState, seat_parts, share_parts};
 
 use crate::claims::{Claims, Seat};
 use crate::share::Share;

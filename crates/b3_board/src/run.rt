@@ -4,7 +4,8 @@ ghost use Rattle.std.specs.Prelude.{◌≡◌, ℕ, ◌+◌, ◌<◌, ◌≤◌,
 ghost use Rattle.b3_core.specs.Tree.{chunks};
 ghost use Rattle.b3_board.specs.Seats.{IsSeatOf};
 ghost use Rattle.b3_board.specs.Spans.{IsRootOf};
-ghost use Rattle.b3_board.specs.WorkerRuns.{HasEachOnce, HasEnded, HasRun, IsNewState, seat_parts, share_parts};
+ghost use Rattle.b3_board.specs.WorkerRuns.{HasEachOnce};
+ghost use Rattle.b3_board.specs.WorkerStates.{HasEnded, HasRun, IsNewState, seat_parts, share_parts};
 ghost use Rattle.b3_board.specs.declared.fault.BoardFault.TheVariants.{Memory};
 
 use crate::backing::Backing;

@@ -4,7 +4,8 @@ ghost use Rattle.std.specs.Prelude.{◌≡◌, ℕ, ◌+◌, ◌-◌, ◌*◌, �
 ghost use Rattle.b3_core.specs.Tree.{chunks};
 ghost use Rattle.b3_board.specs.Plans.{IsCutting};
 ghost use Rattle.b3_board.specs.Spans.{chunks_in};
-ghost use Rattle.b3_board.specs.Regions.{IsMade, IsNamed, region, span_of};
+ghost use Rattle.b3_board.specs.Regions.{region};
+ghost use Rattle.b3_board.specs.SpanHashers.{IsMade, IsNamed, span_of};
 
 use crate::backing::{InSource, Sourced, Unread};
 use crate::named::OwnDone;

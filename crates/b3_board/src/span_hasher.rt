@@ -4,7 +4,7 @@ ghost use Rattle.std.specs.Prelude.{◌≡◌, ℕ, ◌+◌, ◌<◌, ◌≤◌,
 ghost use Rattle.b3_core.specs.Tree.{chunks};
 ghost use Rattle.b3_core.specs.declared.tree.Span.{Span};
 ghost use Rattle.b3_board.specs.Plans.{IsCutting, IsPlanOf};
-ghost use Rattle.b3_board.specs.Regions.{IsMade, span_of};
+ghost use Rattle.b3_board.specs.SpanHashers.{IsMade, span_of};
 ghost use Rattle.b3_board.specs.Spans.{chunks_in};
 
 use crate::backing::{Backing, InMemory, Unread};

@@ -2,7 +2,7 @@ use Rattle.std.proofs.Common.{sum_by, rules, arith, ap, ◌∙◌}
 use Rattle.std.proofs.lemmas.List.Elements.{All-push, All-same}
 use Rattle.std.proofs.lemmas.List.Sums.{sum_by_push}
 use Rattle.b3_board.specs.Shares.{Holding}
-use Rattle.b3_board.specs.WorkerRuns.{IsNewState, seat_parts, share_parts}
+use Rattle.b3_board.specs.WorkerStates.{IsNewState, seat_parts, share_parts}
 use Rattle.b3_board.specs.declared.claim_rule.View.{View}
 use Rattle.b3_board.specs.declared.dealing.WorkerState.{WorkerState}
 use Rattle.b3_board.proofs.dealing.deal.Goals as goal

@@ -1,6 +1,6 @@
 use Rattle.std.proofs.Common.{◌≡◌, ◌+◌, All, length, sum_by}
 use Rattle.b3_board.specs.Seats.{IsSeatOf}
-use Rattle.b3_board.specs.WorkerRuns.{IsNewState, seat_parts, share_parts}
+use Rattle.b3_board.specs.WorkerStates.{IsNewState, seat_parts, share_parts}
 use Rattle.b3_board.proofs.dealing.deal.Given as goal
 
 abbrev pub invariant-loop : goal.invariant-loop

@@ -4,7 +4,7 @@ use Rattle.std.proofs.lemmas.List.Elements.{All-same, All-head, All-tail}
 use Rattle.std.proofs.lemmas.List.Sums.{sum_by-cons, sum_by_push}
 use Rattle.b3_board.specs.Claiming.{has}
 use Rattle.b3_board.specs.Shares.{Holding}
-use Rattle.b3_board.specs.WorkerRuns.{HasEnded, seat_parts, share_parts}
+use Rattle.b3_board.specs.WorkerStates.{HasEnded, seat_parts, share_parts}
 use Rattle.b3_board.specs.declared.claim_rule.View.{View}
 use Rattle.b3_board.proofs.ClaimedIndexes.{has-united_right}
 use Rattle.b3_board.proofs.WorkerStates.{claimed_chunks-joined, claimed_chunks-le}

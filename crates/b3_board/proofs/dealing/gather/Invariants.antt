@@ -1,6 +1,7 @@
 use Rattle.std.proofs.Common.{◌≡◌, ◌+◌, ◌≤◌, ◌<◌, All, length, sum, sum_by}
 use Rattle.b3_board.specs.Seats.{HasSeenAll, IsSeatOf}
-use Rattle.b3_board.specs.WorkerRuns.{HasEnded, claimed_chunks, seat_parts, share_parts}
+use Rattle.b3_board.specs.WorkerRuns.{claimed_chunks}
+use Rattle.b3_board.specs.WorkerStates.{HasEnded, seat_parts, share_parts}
 use Rattle.b3_board.proofs.dealing.gather.Given as goal
 
 abbrev pub invariant-loop-state : goal.invariant-loop-state

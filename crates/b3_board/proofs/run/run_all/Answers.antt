@@ -3,7 +3,7 @@ use Rattle.std.proofs.lemmas.List.{with_items_is}
 use Rattle.std.specs.List.{All}
 use Rattle.std.specs.Vec.{with_items}
 use Rattle.b3_core.specs.declared.tree.Span.{Span}
-use Rattle.b3_board.specs.WorkerRuns.{HasEnded}
+use Rattle.b3_board.specs.WorkerStates.{HasEnded}
 use Rattle.b3_board.proofs.run.run_all.Goals as goal
 
 pub join_up-requires-clause-each : goal.join_up-requires-clause-each

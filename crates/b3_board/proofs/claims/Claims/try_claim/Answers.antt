@@ -2,7 +2,8 @@ use Rattle.std.proofs.Common.{◌≡◌, eq-eqb, ne_eqb, true, false, length, re
 use Rattle.atomic_table.specs.Table.{Me}
 use Rattle.b3_board.specs.declared.claim_rule.View.{View}
 use Rattle.b3_board.specs.Claiming.{tried}
-use Rattle.b3_board.specs.Seats.{Indexes, KeepsSeat}
+use Rattle.b3_board.specs.Seats.{Indexes}
+use Rattle.b3_board.specs.ClaimRule.{KeepsSeat}
 use Rattle.b3_board.proofs.ClaimSteps.{Allows-Tried}
 use Rattle.b3_board.proofs.SeatViews.{IsSeatOf-kept, IsSeatOf-same, KeepsSeat-lost}
 use Rattle.b3_board.proofs.claims.Claims.try_claim.Goals as goal
