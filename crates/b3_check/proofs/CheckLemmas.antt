@@ -15,7 +15,8 @@ use Rattle.b3_check.specs.declared.tally.Tally.{Tally}
 use Rattle.b3_check.specs.Checks.{Entry, decoded, entry_of, line_script, line_scripts, list_script, lists_script, verdict_on, verdict_report}
 use Rattle.b3_check.specs.Digests.{line_range}
 use Rattle.b3_check.specs.Reading.{Answered}
-use Rattle.b3_check.specs.Runs.{Broke, Ran, Runs, Scene, Stopped, Went}
+use Rattle.b3_check.specs.Runs.{Broke, Ran, Scene, Stopped, Went}
+use Rattle.b3_check.specs.Devices.{Runs}
 use Rattle.b3_check.specs.Scripts.{Answer, Kind, Report, Script, followed_by, in_turn, then_counted}
 use Rattle.b3_check.specs.Scripts.Script.{Ask, Done, Say}
 use Rattle.b3_check.specs.Tallies.{no_tally, tally_sum}

@@ -27,7 +27,8 @@ use Rattle.b3_check.specs.Checks.{Entry, check_script, entry_of, line_script, li
 use Rattle.b3_check.specs.Contents.{Contents, input_name}
 use Rattle.b3_check.specs.Digests.{digest_of, digest_script, line_range, range_of}
 use Rattle.b3_check.specs.Laws.{ChecksRightly, IsJust, IsModeOf, LineIsRight, ListIsRight, NameIsRight, Says, SumsRightly, Writes, cannot_show, digest, total}
-use Rattle.b3_check.specs.Runs.{Runs, Scene}
+use Rattle.b3_check.specs.Runs.{Scene}
+use Rattle.b3_check.specs.Devices.{Runs}
 use Rattle.b3_check.specs.Scripts.{AgreesWith, Answer, AnswersFirst, IsComplete, Report, Script, answer_of, followed_by, in_turn, joined, nothing, report, then_counted}
 use Rattle.b3_check.specs.Scripts.Kind.{Hashed, Key, Listed}
 use Rattle.b3_check.specs.Scripts.Script.{Ask, Done, Fail, Say}

@@ -17,7 +17,8 @@ use Rattle.b3_check.specs.Scripts.{Answer, Kind, Report, Script, AnswersFirst, A
 use Rattle.b3_check.specs.Scripts.Script.{Done, Fail, Say, Ask}
 use Rattle.b3_check.specs.Sinks.{GainsBeginning}
 use Rattle.b3_check.specs.Reading.{Answered, FindsMode, FoundKey, FoundMode, FoundNoMode, IsReadingFault, Unanswered}
-use Rattle.b3_check.specs.Runs.{Broke, Gains, GainsPart, HasRoom, Heard, IsCausedBy, Ran, RanSurely, RanSurelyOver, Runs, Scene, Sheet, Stopped, Went, sink_failures}
+use Rattle.b3_check.specs.Runs.{Broke, Gains, GainsPart, Heard, IsCausedBy, Ran, RanSurely, RanSurelyOver, Scene, Sheet, Stopped, Went, sink_failures}
+use Rattle.b3_check.specs.Devices.{HasRoom, Runs}
 use Rattle.b3_check.proofs.Gains.{Appends-nil, Appends-append, GainsBeginning-all, GainsBeginning-append, GainsBeginning-longer, GainsBeginning-none}
 use Rattle.b3_check.proofs.ScriptLemmas.{AnswersFirst-append, AnswersFirst-longer, AnswersFirst-none, AsksNext-append, AsksNext-longer, FailsNext-append, FailsNext-longer, IsComplete-append, followed_by-counted, joined-nothing, next_of, nothing-joined, report-append, report-longer, unread-append}
 

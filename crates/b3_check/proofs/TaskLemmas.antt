@@ -18,14 +18,15 @@ use Rattle.b3_check.specs.Contents.{Contents, HasContent}
 use Rattle.b3_check.specs.Digests.{digest_of, digest_script}
 use Rattle.b3_check.specs.Owing.{RanOwing, on_out}
 use Rattle.b3_check.specs.Reading.{Digested}
-use Rattle.b3_check.specs.Runs.{Broke, HasRoom, Ran, Scene, Stopped, Went}
+use Rattle.b3_check.specs.Runs.{Broke, Ran, Scene, Stopped, Went}
+use Rattle.b3_check.specs.Devices.{HasRoom}
 use Rattle.b3_check.specs.Scripts.{AgreesWith, Given, Report, answer_of, followed_by, in_turn}
 use Rattle.b3_check.specs.Scripts.Kind.{Hashed}
 use Rattle.b3_check.specs.Scripts.Script.{Done, Say}
 use Rattle.b3_check.specs.Sums.{failed_report, is_bad_name, name_report, name_script, names_script, shows_name}
-use Rattle.b3_check.specs.Tallies.{counted, no_tally, one_failed, one_missing, tally_sum}
+use Rattle.b3_check.specs.Tallies.{no_tally, one_failed, one_missing, tally_sum}
+use Rattle.b3_check.specs.Tasks.{counted, Found, Task, name_asked, name_task, report_of, subject_report, task_script, tasks_script}
 use Rattle.b3_check.specs.Prefetch.{HasReport}
-use Rattle.b3_check.specs.Tasks.{Found, Task, name_asked, name_task, report_of, subject_report, task_script, tasks_script}
 use Rattle.b3_check.specs.Tasks.Task.{Tell, Find}
 use Rattle.b3_check.proofs.OwingLemmas.{owing_done, owing_stopped, owing_then, owing_written}
 use Rattle.b3_check.proofs.RunLemmas.{stopped_answered, stopped_at_once, stopped_early, stopped_said, went_nowhere}

@@ -1,5 +1,5 @@
 -- What a run of a script did to a shelf and two sinks.
-use Rattle.std.specs.Prelude.{◌≡◌, ◌⊎◌, ⊤, ℕ, ◌+◌, ◌-◌, ◌^◌, ◌<◌, ◌≤◌, Bool, true, false, List, Option, None, Some, Result, Ok, Err, if◌then◌else◌, length}
+use Rattle.std.specs.Prelude.{◌≡◌, ◌⊎◌, ⊤, ℕ, ◌+◌, ◌<◌, ◌≤◌, Bool, true, false, List, Option, None, Some, if◌then◌else◌, length}
 use Rattle.std.specs.Io.KnownBytes.{Appends}
 use Rattle.b3_check.specs.declared.options.Limits.{Limits}
 use Rattle.b3_check.specs.declared.shelf.Shelf.{Ghosts as ShelfWords}
@@ -107,11 +107,6 @@ pub record Stopped (limits : Limits) (script : Script) (before after : Scene) (f
   pub broke : Broke before after answers (report script answers) fault
   pub cause : IsCausedBy fault before.told limits script answers
 
--- the run of a script, to its end or to a fault
-abbrev pub Runs : Limits → Script → Scene → Scene → Result Tally RunFault → Type 0
-Runs limits script before after (Ok tally) = Ran script before after tally
-Runs limits script before after (Err fault) = Stopped limits script before after fault
-
 -- over a shelf that tells its contents and fails nowhere else, the run's report is that of the contents
 pub record RanFrom (contents : Contents) (script : Script) (before after : Scene) (tally : Tally) : Type 0 where
   pub out : Appends before.out.held after.out.held (report_from contents script).out
@@ -126,9 +121,3 @@ RanSurelyOver (Some contents) true script before after tally = RanFrom contents 
 
 abbrev pub RanSurely : Script → Scene → Scene → Tally → Type 0
 RanSurely script before after tally = RanSurelyOver before.told before.sure script before after tally
-
--- so many further failures of the shelf can be counted, and one of each sink
-pub record HasRoom (a : Scene) (count : ℕ) : Type 0 where
-  pub shelf : a.failures + count < 2 ^ 64 - 1
-  pub out : a.out.failures < 2 ^ 64 - 1
-  pub err : a.err.failures < 2 ^ 64 - 1

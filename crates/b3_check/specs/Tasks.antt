@@ -21,7 +21,6 @@ use Rattle.b3_check.specs.Runs.{Broke, Scene, Stopped, Went}
 use Rattle.b3_check.specs.Scripts.{Answer, AnswersFirst, Given, IsComplete, Report, Script, given_map, in_turn, nothing, report}
 use Rattle.b3_check.specs.Scripts.Script.{Done, Say}
 use Rattle.b3_check.specs.Sums.{failed_report, is_bad_name, name_report, shows_name}
-use Rattle.b3_check.specs.Tallies.{counted}
 
 -- something is said, or a name is asked for and what its digest gives is said
 pub data Task : Type 0 where
@@ -60,6 +59,10 @@ IsFit len (Line options line) = len ≡ 32
 abbrev pub task_of : Item → Task
 task_of (SayItem said) = Tell (report_of said)
 task_of (AskItem subject) = Find (name_asked subject) (subject_report subject)
+
+-- the sum of all counts, in which a failed line may stand twice
+abbrev pub counted : Tally → ℕ
+counted tally = tally.ok + tally.failed + tally.lists + tally.differing + tally.malformed + tally.missing
 
 -- what is said is one line or name, or a name is asked for that is fit
 abbrev pub IsFitItem : ℕ → Item → Type 0

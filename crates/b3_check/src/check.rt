@@ -10,10 +10,11 @@ ghost use Rattle.b3_check.specs.Digests.{line_range};
 ghost use Rattle.b3_check.specs.Faults.{is_write_fault};
 ghost use Rattle.b3_check.specs.Laws.{AsksAll, ChecksRightly, File, IsThere, Knows, ListIsVerified, Says, Wrote, oks_of, sums_of, verdicts_on};
 ghost use Rattle.b3_check.specs.Options.{CanCheck, check_limits};
-ghost use Rattle.b3_check.specs.Devices.{loans, scene_of};
-ghost use Rattle.b3_check.specs.Runs.{HasRoom, Ran, RanSurely, Runs, Stopped, scene};
+ghost use Rattle.b3_check.specs.Devices.{HasRoom, Runs, loans, scene_of};
+ghost use Rattle.b3_check.specs.Runs.{Ran, RanSurely, Stopped, scene};
 ghost use Rattle.b3_check.specs.Sums.{shows_name};
-ghost use Rattle.b3_check.specs.Tallies.{counted, status_of};
+ghost use Rattle.b3_check.specs.Tallies.{status_of};
+ghost use Rattle.b3_check.specs.Tasks.{counted};
 ghost use Rattle.b3_check.specs.declared.options.Form.{Form};
 
 use crate::devices::Devices;

@@ -4,7 +4,6 @@ ghost use Rattle.std.specs.Prelude.{◌≡◌, ◌-◌, ◌^◌, ◌<◌, ◌≤
 ghost use Rattle.b3_check.specs.Contents.{input_name};
 ghost use Rattle.b3_check.specs.Owing.{SaysOwing, on_out};
 ghost use Rattle.b3_check.specs.Reading.{Answered, Asks, Hashes, key_answer};
-ghost use Rattle.b3_check.specs.Runs.{HasRoom};
 ghost use Rattle.b3_check.specs.Scripts.Kind.{Key, Listed};
 ghost use Rattle.b3_check.specs.Tasks.{Says, report_of};
 
@@ -44,7 +43,7 @@ impl<'s, 'o, 'e, S, O, E> Drop for Devices<'s, 'o, 'e, S, O, E> {
 }
 
 impl<'s, 'o, 'e, S: Shelf + Send + Sync, O: Sink, E: Sink> Devices<'s, 'o, 'e, S, O, E> {
-    ghost use Rattle.b3_check.specs.Devices.{loans, scene_of};
+    ghost use Rattle.b3_check.specs.Devices.{HasRoom, loans, scene_of};
 
     // The calls that read say of all three devices what their readers say of the shelf alone, since a run is told by
     // its scenes.

@@ -2,10 +2,8 @@
 
 ghost use Rattle.std.specs.Prelude.{◌≡◌, ℕ, ◌+◌, ◌*◌, ◌-◌, ◌^◌, ◌<◌, ◌≤◌, ◌∷◌, [], All, true, length, IfOk, IfSome, MatchOption, OnOk};
 ghost use Rattle.b3_check.specs.Prefetch.{IsRight};
-ghost use Rattle.b3_check.specs.Devices.{loans, scene_of};
-ghost use Rattle.b3_check.specs.Runs.{HasRoom, Runs};
-ghost use Rattle.b3_check.specs.Tallies.{counted};
-ghost use Rattle.b3_check.specs.Tasks.{Finds, task_of, task_script, tasks_script};
+ghost use Rattle.b3_check.specs.Devices.{HasRoom, Runs, loans, scene_of};
+ghost use Rattle.b3_check.specs.Tasks.{counted, Finds, task_of, task_script, tasks_script};
 
 use crate::devices::Devices;
 use crate::digester::Digester;

@@ -6,8 +6,7 @@ ghost use Rattle.hex.specs.Hex.{encode_lower};
 ghost use Rattle.b3_lines.specs.Writing.{plain, tagged};
 ghost use Rattle.b3_check.specs.Sums.{complaint, digest_text, failed_report, is_bad_name, line_feed, name_report, shows_name};
 ghost use Rattle.b3_check.specs.Checks.{answer_as, err_report, line_reason, list_end, list_end_report, mismatches, refusal, refused_report, unless_silent, unread_list_report, verdict_on, verdict_report, verdict_text, verdict_words, warning, warning_report};
-ghost use Rattle.b3_check.specs.Tallies.{counted};
-ghost use Rattle.b3_check.specs.Tasks.{bytes_of, len_of, report_of};
+ghost use Rattle.b3_check.specs.Tasks.{counted, bytes_of, len_of, report_of};
 
 use crate::judging::{Answer, Verdict, judge};
 use crate::options::{CheckOptions, Form};

@@ -2,7 +2,8 @@
 use Rattle.std.proofs.Common.{◌≡◌, ℕ, Bool, true, false, List, Some, Result, Ok, Err, refl, sym, ◌∙◌, arith, inl, inr, map, string_bytes}
 use Rattle.b3_check.specs.Contents.{Contents}
 use Rattle.b3_check.specs.Options.{check_limits, limits_of}
-use Rattle.b3_check.specs.Runs.{Runs, Scene, Sheet}
+use Rattle.b3_check.specs.Runs.{Scene, Sheet}
+use Rattle.b3_check.specs.Devices.{Runs}
 use Rattle.b3_check.specs.Sinks.{GainsBeginning}
 use Rattle.b3_check.specs.declared.fault.RunFault.{RunFault}
 use Rattle.b3_check.specs.declared.tally.Tally.{Tally}

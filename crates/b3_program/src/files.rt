@@ -4,7 +4,8 @@ ghost use Rattle.b3_check.specs.Contents.{Gives, HasContent, StandsForContent, L
 ghost use Rattle.b3_check.specs.declared.shelf.NoContent.TheVariants.{Missing};
 ghost use Rattle.b3_hash.specs.Hashers.{StandsFor, mode_of};
 ghost use Rattle.b3_program.specs.Disks.{IsOfMissing, IsRefusedBy};
-ghost use Rattle.b3_program.specs.Files.{file_side, contents_with, input_side, is_input, is_open, rest_of, source_left, source_position, source_tells, told_if};
+ghost use Rattle.b3_program.specs.Files.{contents_with, rest_of, told_if};
+ghost use Rattle.b3_program.specs.Sources.{file_side, input_side, is_input, is_open, source_left, source_position, source_tells};
 
 use crate::disk::{Disk, DiskFile, Input};
 use crate::retrying::fill_at;

@@ -2,7 +2,7 @@
 
 ghost use Rattle.std.specs.Prelude.{◌≡◌, ◌+◌, ◌<◌, ◌≤◌, true, IsTrue, length, take, IfSome};
 ghost use Rattle.b3_check.specs.Contents.{Gives};
-ghost use Rattle.b3_program.specs.Files.{file_rest, input_rest};
+ghost use Rattle.b3_program.specs.Sources.{file_rest, input_rest};
 
 use crate::disk::{DiskFile, Input};
 use crate::retrying::{fill, fill_at, read_at_retrying, read_retrying};

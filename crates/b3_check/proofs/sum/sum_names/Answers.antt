@@ -2,9 +2,8 @@ use Rattle.std.proofs.Common.{◌<◌, ◌^◌, Err, arith, length, map, refl, s
 use Rattle.std.proofs.lemmas.List.{length-map}
 use Rattle.std.proofs.lemmas.Result.{err_from_is_err_and}
 use Rattle.b3_core.specs.declared.modes.Mode.{Mode}
-use Rattle.b3_check.specs.Devices.{scene_of}
+use Rattle.b3_check.specs.Devices.{HasRoom, scene_of}
 use Rattle.b3_check.specs.Digests.{range_of}
-use Rattle.b3_check.specs.Runs.{HasRoom}
 use Rattle.b3_check.specs.Sums.{names_script}
 use Rattle.b3_check.proofs.RunLemmas.{mode_count, mode_room, runs_in_mode, runs_surely, stopped_at_once, stopped_in_mode}
 use Rattle.b3_check.proofs.TaskLemmas.{tasks_script-names}

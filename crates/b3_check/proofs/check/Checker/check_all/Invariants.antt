@@ -2,7 +2,7 @@ use Rattle.std.proofs.Common.{◌≡◌, ◌+◌, ◌*◌, ◌≤◌, map, strin
 use Rattle.b3_check.specs.Checks.{lists_script}
 use Rattle.b3_check.specs.Devices.{loans, scene_of}
 use Rattle.b3_check.specs.Runs.{Ran}
-use Rattle.b3_check.specs.Tallies.{counted}
+use Rattle.b3_check.specs.Tasks.{counted}
 use Rattle.b3_check.proofs.check.Checker.check_all.Given as goal
 
 -- the lists so far are checked
