@@ -34,10 +34,10 @@ use std::thread::Threads;
 /// deposits them as one of [`hash_parallel`] does.
 ///
 /// Refused by the first of `BadWorkers`, `BadGrain`, `TooLarge` and `TooManySpans` that holds, else by `Memory` where a
-/// growth is. None where some span could not be read whole, or where the buffer is shorter than a span; so a source that
-/// is sure of these bytes gives Some. No more workers run than the buffer has spans for. The root is that of one content
-/// of `len` bytes, which is the source's where the source tells it. Nothing is swept: a span that no worker deposited,
-/// though none failed to read it, is read by this call and counted for the first worker.
+/// growth is. None where some span could not be read whole, or where the buffer is shorter than a span; so a source
+/// that is sure of these bytes gives Some. No more workers run than the buffer has spans for. The root is that of one
+/// content of `len` bytes, which is the source's where the source tells it. Nothing is swept: a span that no worker
+/// deposited, though none failed to read it, is read by this call and counted for the first worker.
 pub fn hash_source<R: Threads + Wait + Sync, S: Source + Sync, G: Gate + Sync>(
     rt: &R,
     alloc: Global,

@@ -15,8 +15,8 @@ use b3_core::{Mode, Span};
 
 const CHUNK_LEN: u64 = b3_core::CHUNK_LEN as u64;
 
-// So many bytes of a source from an offset on, with a mode, the number of their first chunk, and their cutting into spans
-// of no more than `grain` chunks.
+// So many bytes of a source from an offset on, with a mode, the number of their first chunk, and their cutting into
+// spans of no more than `grain` chunks.
 #[derive(Drop)]
 pub(crate) struct SourcePlan<'s, S: Source> {
     pub(crate) source: &'s S,

@@ -101,8 +101,8 @@ pub(crate) fn work<R: Wait, H: Backing, L: Named, C: SpanHasher<H, L>, G: Gate +
     }
 }
 
-// Hashes span `i` without the lock, passes the gate and deposits under the lock. A span for which the buffer is too short
-// stays open.
+// Hashes span `i` without the lock, passes the gate and deposits under the lock. A span for which the buffer is too
+// short stays open.
 fn hash_span<R: Wait, H: Backing, L: Named, C: SpanHasher<H, L>, G: Gate + Sync>(
     rt: &R,
     hasher: &C,
