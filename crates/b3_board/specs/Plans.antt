@@ -1,4 +1,4 @@
--- Plans, and the jobs that they are cut into, as contracts see them.
+-- Plans, and the jobs that they are cut into, as contracts see them (BLAKE3 (2020), 2.1).
 use Rattle.std.specs.Prelude.{◌≡◌, ℕ, ◌+◌, ◌-◌, ◌*◌, ◌<◌, ◌≤◌, ◌^◌, min, List, map, length, take, slice_index_or}
 use Rattle.std.specs.Int.{IsPowerOfTwo, div_ceil}
 use Rattle.std.specs.List.{range_with_len}

@@ -1,4 +1,5 @@
--- A content that is read at places: what is known of a part of it, and what a hasher stands for between two regions.
+-- A content that is read at offsets: what is known of a part of it (BLAKE3 (2020), 2.1), and what a hasher stands for
+-- between two regions.
 use Rattle.std.specs.Prelude.{◌≡◌, ℕ, ◌/◌, ◌%◌, IsSome, List, Option, length, take, drop}
 use Rattle.b3_core.specs.Tree.{top}
 use Rattle.b3_core.specs.declared.modes.Mode.{Mode}

@@ -1,4 +1,4 @@
--- What reading one name says.
+-- What reading one name gives: its answer and digest, or the fault that comes in their place.
 use Rattle.std.specs.Prelude.{◌≡◌, ◌≢◌, ◌⊎◌, ⊤, ℕ, ◌+◌, ◌<◌, ◌≤◌, ◌++◌, Bool, IsSome, List, [], ◌∷◌, Option, None, Some, Result, Ok, Err, length, take}
 use Rattle.std.specs.Option.{option_map}
 use Rattle.std.specs.String.{string_bytes}
