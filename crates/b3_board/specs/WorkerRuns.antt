@@ -1,5 +1,5 @@
 -- Workers at the spans of a plan, as contracts see them.
-use Rattle.std.specs.Prelude.{◌≡◌, ℕ, ◌+◌, ◌≤◌, List, map, nat_lt, slice_index}
+use Rattle.std.specs.Prelude.{◌≡◌, ℕ, ◌+◌, ◌≤◌, true, List, map, nat_lt, slice_index}
 use Rattle.std.specs.List.{sum_by}
 use Rattle.b3_core.specs.Tree.{top}
 use Rattle.b3_core.specs.declared.tree.Span.{Span}
