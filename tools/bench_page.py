@@ -29,7 +29,7 @@ UNUSUAL = ("loaded: ", "cold: ")
 NAMES, BARS, SIDE, RATIOS, GAP = 196, 250, 28, 46, 12
 HEAD, STEP, BAR = 68, 22, 12
 # What a ratio of times says, on a scale where twice and half as fast are equally far from the middle.
-SCALE = {1 / 8: "8 times", 1 / 4: "4 times", 1 / 2: "twice", 1: "just", 2: "half", 4: "a quarter", 8: "an eighth"}
+SCALE = {1 / 4: "4 times", 1 / 2: "twice", 1: "just", 2: "half", 4: "a quarter"}
 PANELS = {INSTALLED: "Beside the installed b3sum", ON_AVX2: "Beside it on AVX2, as this one is"}
 STYLE = """
 text { font: 13px system-ui, sans-serif; fill: #57606a } .head { font-weight: 600 } .scale { font-size: 11px }
