@@ -7,8 +7,8 @@ use Rattle.std.specs.Simd.Lanes.{zip2}
 use Rattle.std.proofs.lemmas.Simd.{length-zip2}
 use Rattle.std.proofs.lemmas.List.{length-map}
 use Rattle.b3_core.specs.Words.{add32}
-use Rattle.b3_core.specs.Compression.{half_g, output, round}
-use Rattle.b3_core.specs.Rows.{AreRows, diagonalized, half_columns, joined, undiagonalized}
+use Rattle.b3_core.specs.Compression.{half_g, output, permuted, round}
+use Rattle.b3_core.specs.Rows.{AreRows, diagonalized, half_columns, joined, message_of, undiagonalized}
 use Rattle.b3_core.proofs.Lists.{elements}
 use Rattle.b3_core.proofs.Rounds.{columns_together, diagonals_together, round-together}
 
@@ -116,12 +116,12 @@ unfolding half_g
 undiagonalized-diagonals at x = refl
 
 -- a whole round, of which the columns give sixteen words
-pub round-rows : (v m : List ℕ) → length v ≡ 16
+round-words : (v m : List ℕ) → length v ≡ 16
     → length (columns_together v (λ i. get_or m i 0)) ≡ 16
     → undiagonalized (half_columns (half_columns (diagonalized (columns_together v (λ i. get_or m i 0)))
     (picked m (14 ∷ 8 ∷ 10 ∷ 12 ∷ [])) 16 12) (picked m (15 ∷ 9 ∷ 11 ∷ 13 ∷ [])) 8 7)
     ≡ round v m
-round-rows v m count middle =
+round-words v m count middle =
     let x : ℕ → ℕ = λ i. get_or m i 0 in
     let u : List ℕ = columns_together v x in
     let u_is = elements u 16 middle in
@@ -130,6 +130,54 @@ round-rows v m count middle =
     ∙ undiagonalized-diagonals (λ i. get_or u i 0) x
     ∙ ap (λ t. diagonals_together t x) (sym u_is)
     ∙ round-together v m count
+
+-- and with the message as rows
+abbrev round_rows : List ℕ → List ℕ → List ℕ → List ℕ → List ℕ → List ℕ
+round_rows v a b c d =
+    undiagonalized (half_columns (half_columns (diagonalized (half_columns (half_columns v a 16 12) b 8 7)) c 16 12)
+    d 8 7)
+
+pub round-rows : (v a b c d : List ℕ) → length v ≡ 16 → length a ≡ 4 → length b ≡ 4 → length c ≡ 4 → length d ≡ 4
+    → length (half_columns (half_columns v a 16 12) b 8 7) ≡ 16
+    → round_rows v a b c d ≡ round v (message_of (a ++ b ++ c ++ d))
+round-rows v a b c d count a_long b_long c_long d_long middle =
+    let a_is = elements a 4 a_long in
+    let b_is = elements b 4 b_long in
+    let c_is = elements c 4 c_long in
+    let d_is = elements d 4 d_long in
+    let first : List ℕ = row (λ i. get_or a i 0) in
+    let second : List ℕ = row (λ i. get_or b i 0) in
+    let count_is : length (half_columns (half_columns v a 16 12) b 8 7)
+    ≡ length (half_columns (half_columns v first 16 12) second 8 7) =
+    λ i. length (half_columns (half_columns v (a_is i) 16 12) (b_is i) 8 7) in
+    (λ i. round_rows v (a_is i) (b_is i) (c_is i) (d_is i))
+    ∙ round-words v (message_of (first ++ second ++ row (λ i. get_or c i 0) ++ row (λ i. get_or d i 0))) count
+    (sym count_is ∙ middle)
+    ∙ sym (λ i. round v (message_of (a_is i ++ b_is i ++ c_is i ++ d_is i)))
+
+-- a message of sixteen words by rows
+pub message_of-rows : (m : List ℕ) → length m ≡ 16
+    → message_of (picked m (0 ∷ 2 ∷ 4 ∷ 6 ∷ 1 ∷ 3 ∷ 5 ∷ 7 ∷ 14 ∷ 8 ∷ 10 ∷ 12 ∷ 15 ∷ 9 ∷ 11 ∷ 13 ∷ [])) ≡ m
+message_of-rows m count = sym (elements m 16 count)
+
+-- the words of rows moved as the permutation moves those of the message
+pub message_of-permuted : (a b c d : List ℕ) → length a ≡ 4 → length b ≡ 4 → length c ≡ 4 → length d ≡ 4
+    → message_of (picked (a ++ b) (1 ∷ 5 ∷ 7 ∷ 2 ∷ [])
+    ++ picked (picked (a ++ c) (3 ∷ 6 ∷ 0 ∷ 0 ∷ []) ++ d) (0 ∷ 1 ∷ 2 ∷ 7 ∷ [])
+    ++ picked (picked (d ++ b) (0 ∷ 4 ∷ 0 ∷ 1 ∷ []) ++ c) (0 ∷ 1 ∷ 7 ∷ 3 ∷ [])
+    ++ picked (picked (c ++ d) (1 ∷ 6 ∷ 0 ∷ 0 ∷ []) ++ b) (0 ∷ 1 ∷ 6 ∷ 3 ∷ []))
+    ≡ permuted (message_of (a ++ b ++ c ++ d))
+unfolding permuted
+message_of-permuted a b c d a_long b_long c_long d_long =
+    let a_is = elements a 4 a_long in
+    let b_is = elements b 4 b_long in
+    let c_is = elements c 4 c_long in
+    let d_is = elements d 4 d_long in
+    (λ i. message_of (picked (a_is i ++ b_is i) (1 ∷ 5 ∷ 7 ∷ 2 ∷ [])
+    ++ picked (picked (a_is i ++ c_is i) (3 ∷ 6 ∷ 0 ∷ 0 ∷ []) ++ d_is i) (0 ∷ 1 ∷ 2 ∷ 7 ∷ [])
+    ++ picked (picked (d_is i ++ b_is i) (0 ∷ 4 ∷ 0 ∷ 1 ∷ []) ++ c_is i) (0 ∷ 1 ∷ 7 ∷ 3 ∷ [])
+    ++ picked (picked (c_is i ++ d_is i) (1 ∷ 6 ∷ 0 ∷ 0 ∷ []) ++ b_is i) (0 ∷ 1 ∷ 6 ∷ 3 ∷ [])))
+    ∙ sym (λ i. permuted (message_of (a_is i ++ b_is i ++ c_is i ++ d_is i)))
 
 -- the output words
 pub output-rows : (a b c d h : List ℕ) → length a ≡ 4 → length b ≡ 4 → length c ≡ 4 → length d ≡ 4

@@ -1,4 +1,5 @@
--- The state of a compression as four rows of four words: a step on whole rows is one on each column.
+-- The state of a compression and its message as four rows of four words each (BLAKE3 (2020), 2.2): a step on whole rows
+-- is one on each column.
 use Rattle.std.specs.Prelude.{◌≡◌, ℕ, List, [], ◌∷◌, ◌++◌, length, map, slice_index}
 use Rattle.b3_core.specs.Compression.{half_g}
 
@@ -27,3 +28,8 @@ diagonalized v =
 abbrev pub undiagonalized : List ℕ → List ℕ
 undiagonalized v =
     map (slice_index v) (1 ∷ 2 ∷ 3 ∷ 0 ∷ 4 ∷ 5 ∷ 6 ∷ 7 ∷ 11 ∷ 8 ∷ 9 ∷ 10 ∷ 14 ∷ 15 ∷ 12 ∷ 13 ∷ [])
+
+-- the message whose words stand in the order in which a round takes them
+abbrev pub message_of : List ℕ → List ℕ
+message_of x =
+    map (slice_index x) (0 ∷ 4 ∷ 1 ∷ 5 ∷ 2 ∷ 6 ∷ 3 ∷ 7 ∷ 9 ∷ 13 ∷ 10 ∷ 14 ∷ 11 ∷ 15 ∷ 8 ∷ 12 ∷ [])
