@@ -1,4 +1,4 @@
-"""What tools/bench measured, as the tables of docs/BENCH.md and README.md and the picture docs/bench.svg."""
+"""Writes what tools/bench measured: the tables of docs/BENCH.md and README.md and the picture docs/bench.svg."""
 
 import os
 import re
@@ -8,18 +8,18 @@ from pathlib import Path
 
 ROOT = Path(__file__).resolve().parent.parent
 
-# The works that README shows, of those beside the installed program.
+# The workloads in the table of README.md.
 SHOWN = ("1 GiB, 1 thread", "1 GiB, 4 threads", "256 MiB by a pipe", "256 MiB as standard input",
          "10,000 files of 1 KiB", "200 files of 1 MiB", "a check of 10,000 lines")
-# What rows stand beside: the installed program and the original C code, each as it is and with AVX-512 hidden from it.
+# What is compared with: the installed program and the original C code, each as it is and with AVX-512 hidden from it.
 INSTALLED, ON_AVX2 = "installed", "installed on AVX2"
 ORIGINAL, ORIGINAL_ON_AVX2 = "original", "original on AVX2"
 PEERS = (INSTALLED, ON_AVX2)
-# The beginnings of the names of works that the picture leaves to the table.
+# The prefixes of the workloads that are in the table but not in the picture.
 UNUSUAL = ("loaded: ", "cold: ")
 
-# The picture, from left to right: names of works, of peers, bars, ratios; and from top to bottom: its head, and a group
-# of bars for each work.
+# The picture, from left to right: names of workloads and of peers, bars, ratios. From top to bottom: a heading, and a
+# group of bars for each workload.
 NAMES, PEER_NAMES, BARS, RATIOS = 205, 70, 400, 50
 HEAD, BAR, STEP, GAP = 44, 11, 13, 9
 STYLE = """
@@ -34,7 +34,7 @@ text { fill: #9aa4b0 } .faster { fill: #4a93ec } .slower { fill: #59626d } .line
 
 @dataclass
 class Row:
-    """A work: its time by ours and by what it stands beside, and the greatest ratio that is wanted. The unit is a
+    """A workload: our time, that of what it is compared with, and the greatest ratio that is wanted. The unit is a
     millisecond, and for the library a nanosecond."""
     name: str
     beside: str
@@ -48,14 +48,14 @@ class Row:
 
     @property
     def is_missed(self):
-        """Whether it took longer than is wanted, or a run failed."""
+        """Whether the ratio is above what is wanted, or a run failed."""
         return self.ratio is None or self.wanted is not None and self.ratio > self.wanted
 
 
 @dataclass
 class Memory:
-    """A run: its greatest resident memory in KiB by ./b3sum and by the installed program, and the most that is wanted
-    of ours."""
+    """A run: the greatest resident memory in KiB of ./b3sum and of the installed program, and the most that is wanted
+    of ./b3sum."""
     name: str
     mine: int | None
     theirs: int | None
@@ -67,12 +67,12 @@ class Memory:
 
     @property
     def is_missed(self):
-        """Whether it took more than is wanted, or a run failed."""
+        """Whether it took more memory than is wanted, or a run failed."""
         return not self.is_taken or self.wanted is not None and self.mine > self.wanted
 
 
 def machine():
-    """The processor and how many of them, and the memory."""
+    """The model and number of the processors, and the memory."""
     model = re.search(r"^model name\s*: (.*)$", Path("/proc/cpuinfo").read_text(), re.MULTILINE)
     memory = int(re.search(r"^MemTotal:\s+(\d+) kB", Path("/proc/meminfo").read_text(), re.MULTILINE)[1])
     name = model[1] if model else "of no known name"
@@ -85,7 +85,7 @@ def ratio_of(row):
 
 
 def by_work(rows, peers):
-    """The rows beside these peers, those of a work together."""
+    """The rows with these peers, grouped by workload."""
     works = {}
     for row in rows:
         if row.beside in peers:
@@ -94,7 +94,7 @@ def by_work(rows, peers):
 
 
 def peers_table(rows):
-    """The works beside the installed program, as it is and on AVX2."""
+    """The table of workloads with the installed program, as it is and on AVX2."""
     peers = [peer for peer in PEERS if by_work(rows, [peer])]
     heads = "".join(f" {peer}, ms | ratio | wanted |" for peer in peers)
     lines = [f"| Work | ours, ms |{heads}", "|---|---|" + "---|---|---|" * len(peers)]
@@ -105,7 +105,7 @@ def peers_table(rows):
 
 
 def table(unit, digits, rows):
-    """Rows that each stand beside something else."""
+    """A table of rows that are compared with different things."""
     lines = [f"| Work | beside | ours, {unit} | that, {unit} | ratio | wanted |", "|---|---|---|---|---|---|"]
     for row in rows:
         times = f"{row.mine:,.{digits}f} | {row.theirs:,.{digits}f} | {ratio_of(row)}"
@@ -114,7 +114,7 @@ def table(unit, digits, rows):
 
 
 def memory_table(peaks):
-    """The memory of runs as docs/BENCH.md has it."""
+    """The table of the memory of runs in docs/BENCH.md."""
     lines = ["| Greatest memory of a run | ours, KiB | installed, KiB | wanted |", "|---|---|---|---|"]
     for peak in peaks:
         wanted = f"{peak.wanted:,}" if peak.wanted else ""
@@ -124,7 +124,7 @@ def memory_table(peaks):
 
 
 def short_table(rows):
-    """The works that README.md shows."""
+    """The table of README.md."""
     lines = ["| Work | ours, ms | ratio to the installed | ratio to it on AVX2 |", "|---|---|---|---|"]
     for name, beside in by_work(rows, PEERS).items():
         if name in SHOWN:
@@ -143,7 +143,7 @@ def line(kind, x, top, bottom):
 
 
 def bar(row, top, left, scale):
-    """A bar with the name of its peer before it, and its ratio to the right of all bars."""
+    """A bar, with the name of its peer in front and the ratio to the right."""
     length, kind = row.ratio * scale, "faster" if row.ratio <= 1 else "slower"
     parts = [text(left - 8, top + 9, row.beside.removeprefix(f"{INSTALLED} "), "end", "peer"),
              f'<rect class="{kind}" x="{left}" y="{top}" width="{length:.1f}" height="{BAR}" rx="2"/>',
@@ -152,7 +152,7 @@ def bar(row, top, left, scale):
 
 
 def picture(rows):
-    """The ratios as bars, of which those that end left of the line are faster than the installed program."""
+    """The ratios as bars: those that end left of the line are faster than the installed program."""
     works = {name: beside for name, beside in by_work(rows, PEERS).items() if not name.startswith(UNUSUAL)}
     shown = [row for beside in works.values() for row in beside]
     left, scale = NAMES + PEER_NAMES, BARS / max(1.5, *(max(row.ratio, row.wanted or 0) for row in shown))
@@ -173,15 +173,15 @@ def picture(rows):
 
 
 def put(page, text):
-    """Puts the text between the page's two marks."""
+    """Replaces the text between the two marks of a page."""
     path = ROOT / page
     marks = re.compile(r"(<!-- bench -->\n).*?(<!-- /bench -->)", re.DOTALL)
     path.write_text(marks.sub(lambda found: f"{found[1]}{text}\n{found[2]}", path.read_text()))
 
 
 def write(rows, library, load, peaks, version):
-    """Writes the picture and the tables. What stands with those of docs/BENCH.md: how many runs wanted a processor
-    before the first of ours, and the version of the installed program."""
+    """Writes the picture and the tables. docs/BENCH.md also gets the load of the machine in the minute before, and the
+    version of the installed program."""
     (ROOT / "docs/bench.svg").write_text(picture(rows))
     head = f"Measured on {machine()}; {load:.1f} other runs wanted a processor in the minute before."
     last = f"The installed program is {version}. The files that it maps are counted as its memory."
