@@ -1,36 +1,39 @@
-# `make` proves the crates and builds ./b3sum for the processor of this machine.
-# `make install` installs it and its manual page below PREFIX, by default /usr/local; `make uninstall` removes them.
-# `make lib` proves the crates of the C library and builds libb3.a and libb3.so for the processor of this machine, and
-# `make lib CPU=x86-64-v2` for any x86-64 since 2009. `make install-lib` installs them, the header and b3.pc.
-# `make check` is for development: it proves only what changed since its last run, and runs the tests of that.
-# `make test` is the gate: every proof from nothing, the must-fail edits, the tests and the stored run.
-# `make lib-test` calls the library from C, C++ and Python programs. It needs a C compiler, and is not part of the gate.
-# Not part of the gate either, and run on the built program:
-# `make compare` compares it with the installed b3sum, on the same inputs, trees and lists.
-# `make faults` tests it with full devices, closed streams, broken lists, odd names and files that change.
-# `make refused` makes each memory allocation fail in turn.
-# `make soak` runs it for two minutes on random trees and lists, with outputs, memory and descriptors that fail.
-# `make bench` measures it and the installed b3sum, the code on lanes and plain word code, runs of workers, and the
-# library and the original C code if that is installed. It writes the tables of README.md and docs/BENCH.md and the
-# picture docs/bench.svg, and fails if a row is above what is wanted.
-# `make imports` compares the names that it imports from the C library with a list.
-# `make audit` checks that docs/AUDIT.md names the files, the sizes and the definitions that the clauses really use.
-# `make statements` prints the laws and every definition that they use, as one text in reading order.
-# `make cheat EDIT=crates/NAME/must-fail/WRONG.edit` tries one wrong body, which the prover must refuse.
+# make              proves the program, and builds ./b3sum for this processor
+# make install      installs it and its manual page below PREFIX, which is /usr/local; make uninstall removes them
+# make lib          proves the hasher, and builds it as a C library, libb3.a and libb3.so, for this processor;
+#                   with CPU=x86-64-v2 for any x86-64 processor since 2009
+# make install-lib  installs the library, its header and b3.pc below PREFIX
+# make check        proves what changed since its last run, and runs the tests of that
+# make test         is the gate: all proofs, the must-fail edits, all tests and the stored run
+#
+# Beside the gate, over what is built:
+# make compare      runs the program beside the installed b3sum, on the same inputs, trees and lists
+# make faults       runs it with full devices, closed streams, broken lists, odd names and files that change
+# make refused      refuses each growth of memory in turn
+# make soak         runs it for two minutes on random trees and lists, with outputs, memory and descriptors that fail
+# make lib-test     calls the library from C, C++ and Python programs; it needs a C compiler
+# make bench        times the program beside the installed b3sum, the code on lanes beside plain word code, runs of
+#                   workers, and the library beside the original C code, where that is installed; writes the tables of
+#                   README.md and docs/BENCH.md, and docs/bench.svg; ends with 1 if a row is slower than is wanted
+# make imports      compares the names that the program imports from the C library with a list
+# make audit        compares docs/AUDIT.md with the files that it names, and with what the laws and contracts cite
+# make statements   prints the laws and all that they cite, as one text in reading order
+# make cheat EDIT=crates/NAME/must-fail/WRONG.edit
+#                   tries one wrong body, which the prover must refuse
 
 PREFIX = /usr/local
 DESTDIR =
 INSTALL = install
 
-# The x86-64 level to build for: the instructions of that level and of all below.
+# The level of x86-64 to build for: the program may use its instructions and those of all levels below.
 CPU := $(if $(shell grep -m 1 -o -w avx2 /proc/cpuinfo 2>/dev/null),x86-64-v3,x86-64-v2)
 FLAGS = --cpu=$(CPU)
 
-# How many tasks of the gate run in parallel: one for each processor and for each 5 GiB of free memory.
+# The gate runs as many tasks at once as there are processors, as long as each has 5 GiB of free memory.
 TASKS := $(shell awk -v processors=$$(nproc) '/^MemAvailable/ { tasks = int($$2 / 5 / 1024 / 1024); \
     if (tasks > processors) tasks = processors; print (tasks > 1 ? tasks : 1) }' /proc/meminfo)
 
-# The folders too: a folder is newer than the program once a file in it was added or removed.
+# With their folders, since a folder is newer than the program once a file in it was added or removed.
 SOURCES := crates.txt $(shell find crates/*/ -mindepth 1 \( -name out -o -name must-fail \) -prune -o -print)
 
 LIBRARY_SOURCES := crates.txt $(shell find $(addprefix crates/,b3_core b3_hash b3_c) -mindepth 1 \
@@ -40,6 +43,8 @@ LIBRARY_SOURCES := crates.txt $(shell find $(addprefix crates/,b3_core b3_hash b
     statements cheat clean force
 
 all: b3sum
+	@echo './b3sum is proved and built. To install it below $(PREFIX): make install'
+	@echo 'After a change: make check proves what changed and runs its tests. See CONTRIBUTING.md.'
 
 b3sum: $(SOURCES)
 	tools/prove b3sum $(FLAGS)
@@ -49,7 +54,7 @@ install: b3sum
 	$(INSTALL) -m 755 b3sum $(DESTDIR)$(PREFIX)/bin/b3sum
 	$(INSTALL) -m 644 b3sum.1 $(DESTDIR)$(PREFIX)/share/man/man1/b3sum.1
 
-# Also removes the library. Its header has a folder of its own, since other implementations have a header of that name.
+# Removes the library too. Its header has a folder of its own, since another implementation's has the same name.
 uninstall:
 	rm -f $(DESTDIR)$(PREFIX)/bin/b3sum $(DESTDIR)$(PREFIX)/share/man/man1/b3sum.1
 	rm -f $(addprefix $(DESTDIR)$(PREFIX)/lib/,libb3.a libb3.so libb3.so.0 pkgconfig/b3.pc)
@@ -58,14 +63,14 @@ uninstall:
 
 lib: libb3.a libb3.so
 
-# Rewritten when another processor level is requested.
+# It changes, and so the library is built again, when another level is asked for.
 libb3.cpu: force
 	@echo $(CPU) | cmp -s - $@ || echo $(CPU) > $@
 
 libb3.a: $(LIBRARY_SOURCES) libb3.cpu
 	tools/prove libb3.a $(FLAGS)
 
-# The loader refuses it on a processor below the level that it was built for.
+# The loader refuses it on a processor below that level.
 libb3.so.0: libb3.a
 	$(CC) -shared -o $@ -Wl,--whole-archive libb3.a -Wl,--no-whole-archive -Wl,-soname,$@ \
 	    -Wl,-z,text -Wl,-z,defs -Wl,-z,now -Wl,-z,$(CPU)
@@ -105,7 +110,7 @@ refused: b3sum
 soak: b3sum
 	tools/soak
 
-# Builds the library too if there is a C compiler, which its rows need.
+# With the library if there is a C compiler, which its rows need.
 bench: b3sum $(if $(shell command -v $(CC) 2>/dev/null),lib)
 	tools/workers $(FLAGS)
 	tools/bench --write $(FLAGS)

@@ -1,16 +1,22 @@
-"""Writes what tools/bench measured: the tables of docs/BENCH.md and README.md and the picture docs/bench.svg."""
+"""What tools/bench measured, as the tables of docs/BENCH.md and README.md and the picture docs/bench.svg.
+
+    python3 tools/bench_page.py
+
+makes the picture anew, from the ratios that stand in docs/BENCH.md.
+"""
 
 import os
 import re
 from dataclasses import dataclass
 from html import escape
+from math import log2
 from pathlib import Path
 
 ROOT = Path(__file__).resolve().parent.parent
 
 # The workloads in the table of README.md.
-SHOWN = ("1 GiB, 1 thread", "1 GiB, 4 threads", "256 MiB by a pipe", "256 MiB as standard input",
-         "10,000 files of 1 KiB", "200 files of 1 MiB", "a check of 10,000 lines")
+SHOWN = ("256 MiB by a pipe", "1 GiB, 4 threads", "10,000 files of 1 KiB", "200 files of 1 MiB",
+         "a check of 10,000 lines")
 # What is compared with: the installed program and the original C code, each as it is and with AVX-512 hidden from it.
 INSTALLED, ON_AVX2 = "installed", "installed on AVX2"
 ORIGINAL, ORIGINAL_ON_AVX2 = "original", "original on AVX2"
@@ -18,16 +24,19 @@ PEERS = (INSTALLED, ON_AVX2)
 # The prefixes of the workloads that are in the table but not in the picture.
 UNUSUAL = ("loaded: ", "cold: ")
 
-# The picture, from left to right: names of workloads and of peers, bars, ratios. From top to bottom: a heading, and a
-# group of bars for each workload.
-NAMES, PEER_NAMES, BARS, RATIOS = 205, 70, 400, 50
-HEAD, BAR, STEP, GAP = 44, 11, 13, 9
+# The picture, from left to right: the names of works, and for each peer a panel of bars and its ratios; from top to
+# bottom: the head, and a line for each work. The words at the ends of a panel need room on both sides of their line.
+NAMES, BARS, SIDE, RATIOS, GAP = 196, 250, 28, 46, 12
+HEAD, STEP, BAR = 68, 22, 12
+# What a ratio of times says, on a scale where twice and half as fast are equally far from the middle.
+SCALE = {1 / 4: "4 times", 1 / 2: "twice", 1: "just", 2: "half", 4: "a quarter"}
+PANELS = {INSTALLED: "Beside the installed b3sum", ON_AVX2: "Beside it on AVX2, as this one is"}
 STYLE = """
-text { font: 13px system-ui, sans-serif; fill: #57606a } .peer, .ratio { font-size: 11px }
-.faster { fill: #2f7bd9 } .slower { fill: #a8b0ba } .line { stroke: #57606a; stroke-width: 1.5 }
-.wanted { stroke: #d1780a; stroke-width: 2.5 }
+text { font: 13px system-ui, sans-serif; fill: #57606a } .head { font-weight: 600 } .scale { font-size: 11px }
+.faster { fill: #2f7bd9 } .slower { fill: #d9822b } .stripe { fill: #8b949e; fill-opacity: 0.09 }
+.line { stroke: #57606a; stroke-width: 1.5 } .grid { stroke: #8b949e; stroke-opacity: 0.4 }
 @media (prefers-color-scheme: dark) {
-text { fill: #9aa4b0 } .faster { fill: #4a93ec } .slower { fill: #59626d } .line { stroke: #9aa4b0 }
+text { fill: #a4aeba } .faster { fill: #4a93ec } .slower { fill: #d98a3d } .line { stroke: #a4aeba }
 }
 """
 
@@ -134,7 +143,7 @@ def short_table(rows):
     return "\n".join(lines)
 
 
-def text(x, y, words, anchor="start", kind="name"):
+def text(x, y, words, anchor="middle", kind="name"):
     return f'<text class="{kind}" x="{x:.1f}" y="{y}" text-anchor="{anchor}">{escape(words)}</text>'
 
 
@@ -142,34 +151,58 @@ def line(kind, x, top, bottom):
     return f'<line class="{kind}" x1="{x:.1f}" x2="{x:.1f}" y1="{top}" y2="{bottom}"/>'
 
 
-def bar(row, top, left, scale):
-    """A bar, with the name of its peer in front and the ratio to the right."""
-    length, kind = row.ratio * scale, "faster" if row.ratio <= 1 else "slower"
-    parts = [text(left - 8, top + 9, row.beside.removeprefix(f"{INSTALLED} "), "end", "peer"),
-             f'<rect class="{kind}" x="{left}" y="{top}" width="{length:.1f}" height="{BAR}" rx="2"/>',
-             text(left + BARS + RATIOS - 8, top + 9, f"{row.ratio:.2f}", "end", "ratio")]
-    return parts + [line("wanted", left + row.wanted * scale, top - 1, top + BAR + 1)] if row.wanted else parts
+def block(kind, left, right, top, height):
+    return f'<rect class="{kind}" x="{left:.1f}" y="{top}" width="{right - left:.1f}" height="{height}"/>'
+
+
+def panel(left, title, ratios, low, high):
+    """A panel: its head, its scale from a ratio to another, and of each work a bar from "just as fast" to its ratio,
+    which stands beside the bars. None is a work that has no such row."""
+    def place(ratio):
+        return left + SIDE + (BARS - 2 * SIDE) * log2(ratio / low) / log2(high / low)
+
+    end, bottom = left + BARS + RATIOS - 8, HEAD + STEP * len(ratios)
+    parts = [text(left, 18, title, "start", "head"), text(end, 56, "ratio", "end", "scale")]
+    for ratio, words in SCALE.items():
+        if low <= ratio <= high:
+            parts += [text(place(ratio), 42, words, kind="scale"), text(place(ratio), 56, "as fast", kind="scale"),
+                      line("grid", place(ratio), HEAD - 6, bottom)]
+    for number, ratio in enumerate(ratios):
+        if ratio:
+            top, sides = HEAD + STEP * number, sorted([place(1), place(ratio)])
+            parts += [block("faster" if ratio <= 1 else "slower", *sides, top + (STEP - BAR) // 2, BAR),
+                      text(end, top + 15, f"{ratio:.2f}", "end")]
+    return parts + [line("line", place(1), HEAD - 6, bottom)]
 
 
 def picture(rows):
-    """The ratios as bars: those that end left of the line are faster than the installed program."""
-    works = {name: beside for name, beside in by_work(rows, PEERS).items() if not name.startswith(UNUSUAL)}
-    shown = [row for beside in works.values() for row in beside]
-    left, scale = NAMES + PEER_NAMES, BARS / max(1.5, *(max(row.ratio, row.wanted or 0) for row in shown))
-    width, height = left + BARS + RATIOS, HEAD + STEP * len(shown) + GAP * len(works)
+    """A panel for each peer. Bars to the left are faster than it, and bars to the right slower."""
+    works = {name: {row.beside: row.ratio for row in beside} for name, beside in by_work(rows, PEERS).items()
+             if not name.startswith(UNUSUAL)}
+    ratios = [ratio for beside in works.values() for ratio in beside.values()]
+    low, high = min(1 / 2, *ratios), max(2, *ratios)
+    peers = [peer for peer in PEERS if by_work(rows, [peer])]
+    width, height = NAMES + (GAP + BARS + RATIOS) * len(peers), HEAD + STEP * len(works) + 8
     parts = [f'<svg xmlns="http://www.w3.org/2000/svg" viewBox="0 0 {width} {height}" width="{width}" role="img">',
-             "<title>Times of b3sum, in multiples of those of the installed program, as it is and on AVX2</title>",
-             f"<style>{STYLE}</style>", text(left + scale - 8, 16, "\u25c2 faster", "end"),
-             text(left + scale + 8, 16, "slower \u25b8"), line("wanted", 12, 6, 20), text(20, 16, "wanted at most")]
-    top = HEAD - 10
-    for name, beside in works.items():
-        parts.append(text(NAMES - 8, top + 4 + STEP * len(beside) // 2, name, "end"))
-        for row in beside:
-            parts += bar(row, top, left, scale)
-            top += STEP
-        top += GAP
-    parts += [line("line", left + scale, 6, height - 8), "</svg>"]
-    return "\n".join(parts) + "\n"
+             "<title>How fast b3sum is beside the installed program, as it is and on AVX2</title>",
+             f"<style>{STYLE}</style>", text(NAMES, 56, "this b3sum is", "end", "scale")]
+    for number, name in enumerate(works):
+        top = HEAD + STEP * number
+        parts += [] if number % 2 else [block("stripe", 0, width, top, STEP)]
+        parts.append(text(NAMES, top + 15, name, "end"))
+    for number, peer in enumerate(peers):
+        left = NAMES + GAP + (GAP + BARS + RATIOS) * number
+        parts += panel(left, PANELS[peer], [beside.get(peer) for beside in works.values()], low, high)
+    return "\n".join([*parts, "</svg>"]) + "\n"
+
+
+def rows_of_page():
+    """The rows beside peers that docs/BENCH.md has. The picture asks for ratios alone: they stand for the times."""
+    table = re.search(r"^\| Work \| ours, ms \|.*?\n\n", (ROOT / "docs/BENCH.md").read_text(), re.MULTILINE | re.DOTALL)
+    head, _, *lines = [[cell.strip() for cell in line.strip("|").split("|")] for line in table[0].rstrip().splitlines()]
+    for name, _, *cells in lines:
+        for peer, ratio in zip(head[2::3], cells[1::3]):
+            yield Row(name, peer.removesuffix(", ms"), float(re.search(r"[\d.]+", ratio)[0]), 1, None)
 
 
 def put(page, text):
@@ -190,3 +223,7 @@ def write(rows, library, load, peaks, version):
     parts += [table("ns", 0, library)] if library else []
     put("docs/BENCH.md", "\n\n".join([*parts, memory_table(peaks), last]))
     put("README.md", f"{short_table(rows)}\n\n![The ratios beside the installed program](docs/bench.svg)")
+
+
+if __name__ == "__main__":
+    (ROOT / "docs/bench.svg").write_text(picture([*rows_of_page()]))
