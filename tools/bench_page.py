@@ -14,14 +14,14 @@ from pathlib import Path
 
 ROOT = Path(__file__).resolve().parent.parent
 
-# The works that README shows, of those beside the installed program.
+# The workloads in the table of README.md.
 SHOWN = ("256 MiB by a pipe", "1 GiB, 4 threads", "10,000 files of 1 KiB", "200 files of 1 MiB",
          "a check of 10,000 lines")
-# What rows stand beside: the installed program and the original C code, each as it is and with AVX-512 hidden from it.
+# What is compared with: the installed program and the original C code, each as it is and with AVX-512 hidden from it.
 INSTALLED, ON_AVX2 = "installed", "installed on AVX2"
 ORIGINAL, ORIGINAL_ON_AVX2 = "original", "original on AVX2"
 PEERS = (INSTALLED, ON_AVX2)
-# The beginnings of the names of works that the picture leaves to the table.
+# The prefixes of the workloads that are in the table but not in the picture.
 UNUSUAL = ("loaded: ", "cold: ")
 
 # The picture, from left to right: the names of works, and for each peer a panel of bars and its ratios; from top to
@@ -43,7 +43,7 @@ text { fill: #a4aeba } .faster { fill: #4a93ec } .slower { fill: #d98a3d } .line
 
 @dataclass
 class Row:
-    """A work: its time by ours and by what it stands beside, and the greatest ratio that is wanted. The unit is a
+    """A workload: our time, that of what it is compared with, and the greatest ratio that is wanted. The unit is a
     millisecond, and for the library a nanosecond."""
     name: str
     beside: str
@@ -57,14 +57,14 @@ class Row:
 
     @property
     def is_missed(self):
-        """Whether it took longer than is wanted, or a run failed."""
+        """Whether the ratio is above what is wanted, or a run failed."""
         return self.ratio is None or self.wanted is not None and self.ratio > self.wanted
 
 
 @dataclass
 class Memory:
-    """A run: its greatest resident memory in KiB by ./b3sum and by the installed program, and the most that is wanted
-    of ours."""
+    """A run: the greatest resident memory in KiB of ./b3sum and of the installed program, and the most that is wanted
+    of ./b3sum."""
     name: str
     mine: int | None
     theirs: int | None
@@ -76,12 +76,12 @@ class Memory:
 
     @property
     def is_missed(self):
-        """Whether it took more than is wanted, or a run failed."""
+        """Whether it took more memory than is wanted, or a run failed."""
         return not self.is_taken or self.wanted is not None and self.mine > self.wanted
 
 
 def machine():
-    """The processor and how many of them, and the memory."""
+    """The model and number of the processors, and the memory."""
     model = re.search(r"^model name\s*: (.*)$", Path("/proc/cpuinfo").read_text(), re.MULTILINE)
     memory = int(re.search(r"^MemTotal:\s+(\d+) kB", Path("/proc/meminfo").read_text(), re.MULTILINE)[1])
     name = model[1] if model else "of no known name"
@@ -94,7 +94,7 @@ def ratio_of(row):
 
 
 def by_work(rows, peers):
-    """The rows beside these peers, those of a work together."""
+    """The rows with these peers, grouped by workload."""
     works = {}
     for row in rows:
         if row.beside in peers:
@@ -103,7 +103,7 @@ def by_work(rows, peers):
 
 
 def peers_table(rows):
-    """The works beside the installed program, as it is and on AVX2."""
+    """The table of workloads with the installed program, as it is and on AVX2."""
     peers = [peer for peer in PEERS if by_work(rows, [peer])]
     heads = "".join(f" {peer}, ms | ratio | wanted |" for peer in peers)
     lines = [f"| Work | ours, ms |{heads}", "|---|---|" + "---|---|---|" * len(peers)]
@@ -114,7 +114,7 @@ def peers_table(rows):
 
 
 def table(unit, digits, rows):
-    """Rows that each stand beside something else."""
+    """A table of rows that are compared with different things."""
     lines = [f"| Work | beside | ours, {unit} | that, {unit} | ratio | wanted |", "|---|---|---|---|---|---|"]
     for row in rows:
         times = f"{row.mine:,.{digits}f} | {row.theirs:,.{digits}f} | {ratio_of(row)}"
@@ -123,7 +123,7 @@ def table(unit, digits, rows):
 
 
 def memory_table(peaks):
-    """The memory of runs as docs/BENCH.md has it."""
+    """The table of the memory of runs in docs/BENCH.md."""
     lines = ["| Greatest memory of a run | ours, KiB | installed, KiB | wanted |", "|---|---|---|---|"]
     for peak in peaks:
         wanted = f"{peak.wanted:,}" if peak.wanted else ""
@@ -133,7 +133,7 @@ def memory_table(peaks):
 
 
 def short_table(rows):
-    """The works that README.md shows."""
+    """The table of README.md."""
     lines = ["| Work | ours, ms | ratio to the installed | ratio to it on AVX2 |", "|---|---|---|---|"]
     for name, beside in by_work(rows, PEERS).items():
         if name in SHOWN:
@@ -206,15 +206,15 @@ def rows_of_page():
 
 
 def put(page, text):
-    """Puts the text between the page's two marks."""
+    """Replaces the text between the two marks of a page."""
     path = ROOT / page
     marks = re.compile(r"(<!-- bench -->\n).*?(<!-- /bench -->)", re.DOTALL)
     path.write_text(marks.sub(lambda found: f"{found[1]}{text}\n{found[2]}", path.read_text()))
 
 
 def write(rows, library, load, peaks, version):
-    """Writes the picture and the tables. What stands with those of docs/BENCH.md: how many runs wanted a processor
-    before the first of ours, and the version of the installed program."""
+    """Writes the picture and the tables. docs/BENCH.md also gets the load of the machine in the minute before, and the
+    version of the installed program."""
     (ROOT / "docs/bench.svg").write_text(picture(rows))
     head = f"Measured on {machine()}; {load:.1f} other runs wanted a processor in the minute before."
     last = f"The installed program is {version}. The files that it maps are counted as its memory."

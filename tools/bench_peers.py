@@ -1,5 +1,5 @@
-"""What tools/bench times ./b3sum and libb3.so beside: the installed b3sum and the original C code, each as it is and
-with AVX-512 hidden from it. What this machine lacks is left out, and named."""
+"""What tools/bench compares ./b3sum and libb3.so with: the installed b3sum and the original C code, each as it is and
+with AVX-512 hidden from it. What this machine lacks is left out, with a message."""
 
 import os
 import shutil
@@ -12,16 +12,16 @@ from bench_page import INSTALLED, ON_AVX2, ORIGINAL, ORIGINAL_ON_AVX2, Row
 from original import original_code, original_parts
 
 TOOLS = Path(__file__).resolve().parent
-# What hashing so many bytes by the library takes at most beside the original on AVX2.
+# The ratios that are wanted to the original on AVX2, by the number of bytes that the library hashes.
 LENGTHS = {"library: 64 bytes": (64, 1.3), "library: 1 KiB": (1 << 10, 1.3), "library: 16 KiB": (1 << 14, 1.0),
            "library: 1 MiB": (1 << 20, 1.0)}
-# Starts of the timing program, each with many turns: the machine is at times slow for longer than a start takes.
+# Starts of the timing program, each with many turns: a machine can be slow for longer than one start takes.
 STARTS = 10
 
 
 @dataclass
 class Program:
-    """A program, and the library that is loaded before the C library in its runs."""
+    """A program, and the library that is preloaded when it runs."""
     path: str
     preloaded: str | None = None
 
@@ -35,12 +35,12 @@ def left_out(what):
 
 
 def is_built(*words):
-    """Whether the C compiler makes something of these words."""
+    """Whether the C compiler succeeds with these arguments."""
     return subprocess.run(["cc", *words], stdin=subprocess.DEVNULL).returncode == 0
 
 
 def hiding_library(folder):
-    """The library that hides AVX-512 from a program, built in a folder; or None, once it is said why there is none."""
+    """The library that hides AVX-512 from a program, built in a folder; or None, after a message that says why."""
     library = f"{folder}/hide_avx512.so"
     if "avx512f" not in Path("/proc/cpuinfo").read_text().split():
         left_out("peers on AVX2: the processor has no AVX-512, so the others are on AVX2")
@@ -61,8 +61,8 @@ def peers_of(path, hiding):
 
 
 def speed_words(folder):
-    """The command that times the library beside the original C code, built in a folder; or None, once it is said why
-    there is none."""
+    """The command that times the library and the original C code, built in a folder; or None, after a message that says
+    why."""
     ours, code = TOOLS.parent / "libb3.so", original_code()
     program, theirs = f"{folder}/speed", f"{folder}/original.so"
     if not shutil.which("cc"):
@@ -79,8 +79,8 @@ def speed_words(folder):
 
 
 def least_times(words, programs):
-    """By a peer's name and a length, the least times of all starts in nanoseconds, ours and the peer's; none of a peer
-    whose start failed. The peers take turns."""
+    """The least times of all starts in nanoseconds, ours and the peer's, by the peer's name and the length. A peer of
+    which a start failed is left out. The peers take turns."""
     least = {}
     for _ in range(STARTS):
         for name, program in programs.items():
@@ -92,7 +92,7 @@ def least_times(words, programs):
 
 
 def library_rows(folder, hiding, only):
-    """The rows of the library, in nanoseconds, whose names have a word; none where it or what it stands beside is not
+    """The rows of the library, in nanoseconds, whose names contain a word; none if the library or the peers are not
     there."""
     lengths = {name: row for name, row in LENGTHS.items() if only in name}
     words = speed_words(folder) if lengths else None

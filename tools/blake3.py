@@ -1,4 +1,4 @@
-"""BLAKE3 in the words of its specification of 2020, section 2: slow, for values to compare with."""
+"""BLAKE3 as section 2 of its specification of 2020 describes it: slow, for values to compare with."""
 
 from functools import cache
 from struct import pack, unpack
@@ -39,7 +39,7 @@ def compress(h, block, counter, flags):
 
 
 class Tree:
-    """The hash tree over bytes, in the mode of these key words and this flag. What is computed once serves every prefix."""
+    """The hash tree over bytes, in the mode of these key words and this flag. Results are kept for all prefixes."""
 
     def __init__(self, data, key=IV, mode=0):
         self.data, self.key, self.mode = data, key, mode
@@ -50,7 +50,7 @@ class Tree:
         return self.output(length, 0, 32).hex()
 
     def output(self, length, seek, count):
-        """So many bytes of the output of the first bytes, from this place on (2.6)."""
+        """Output bytes of a prefix, from an offset on (2.6)."""
         h, block, _, flags = self.top(0, length)
         numbers = range(seek // BLOCK_LEN, (seek + count) // BLOCK_LEN + 1)
         blocks = b"".join(pack("<16I", *compress(h, block, number, flags | ROOT)) for number in numbers)

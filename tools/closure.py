@@ -1,7 +1,7 @@
-"""What a clause stands on: definitions of specs/, types and traits of src/, and words of the kit, and what these cite.
+"""What a clause depends on: definitions of specs/, types and traits of src/, words of the kit, and what these cite.
 
-A word is followed where an import or a declaration of its own file tells what it is. What an item binds itself (a
-parameter, a field, a pattern, a `let`) is no citation.
+A word is followed if an import or a declaration in its file defines it. Names that an item binds itself (parameters,
+fields, patterns, `let`) are not citations.
 """
 
 import re
@@ -16,14 +16,14 @@ GHOST_USE = re.compile(r"^ *ghost use ([\w.]+)(?:\.\{([^}]*)\}| as (\w+))?;$", r
 CODE_USE = re.compile(r"^ *use (crate|\w+)(?:::(\w+))?::(?:\{([^}]*)\}|(\w+));$", re.MULTILINE)
 HEAD = re.compile(r"^(?:(?:abbrev|unfoldable) )?(?:pub )?(?:(record|data) )?(\S+?)(?=[\s:])")
 TOKEN = re.compile(r"[^\s(){}\[\],;.λ⟦⟧<>]+(?:\.[^\s(){}\[\],;.λ⟦⟧<>]+)*")
-# What a pattern may name: all else in it is a variable.
+# The names in a pattern that are not variables.
 CONSTRUCTORS = {"true", "false", "zero", "suc", "pos", "negsuc", "tt"}
 FUNCTION = r' *(?:pub(?:\([^)]*\))? )?(?:(?:const|unsafe|extern "C") )*fn {}\b'
 DECLARED = r"^(?:pub(?:\([^)]*\))? )?(struct|enum|trait) {}\b"
 
 
 class NotFound(Exception):
-    """A root that is not there."""
+    """A root that does not exist."""
 
 
 @dataclass(frozen=True, order=True)
@@ -45,12 +45,12 @@ class Item:
     head: str = ""
 
     def lines(self):
-        """How many lines it has, but for comments."""
+        """The number of lines, without comments."""
         return sum(1 for line in without_comments(self.text).splitlines() if line.strip())
 
 
 def split_names(text):
-    """The names of an import with what they are called here: `A, B as C`."""
+    """The names of an import with their local names: `A, B as C`."""
     for part in (text or "").split(","):
         name, _, alias = part.strip().partition(" as ")
         if name:
@@ -85,12 +85,12 @@ def imports(text, pattern):
 
 
 def holed(name):
-    """The pieces of a name that has places for its arguments, as `if◌then◌else◌`."""
+    """The pieces of a name with places for arguments, such as `if◌then◌else◌`."""
     return [piece for piece in name.split("◌") if piece]
 
 
 def cited(text, known, bound=frozenset()):
-    """What the words of a text stand for, in their order, by what is known of the file."""
+    """What the words of a text stand for, in order, given the names of the file."""
     text = re.sub(r"(?<=[{;])\s*\S+ = ", " ", re.sub(r'"[^"\n]*"', " ", text))
     heads = [token.split(".")[0] for token in TOKEN.findall(text)]
     first = {}
@@ -160,7 +160,7 @@ class SpecFile:
         return bound
 
     def is_variable(self, token, code):
-        """Whether a word of a pattern is no constructor: one of this file counts where its type is named too."""
+        """Whether a word of a pattern is not a constructor. One of this file counts if its type is named too."""
         if token in self.constructors:
             return self.constructors[token] not in TOKEN.findall(code)
         word = self.known().get(token)
@@ -206,7 +206,7 @@ class SourceFile:
         return [it for it in self.lines[start:line] if not it.strip().startswith("#[")]
 
     def block_end(self, line):
-        """The line at which what begins here ends: at a `}` of its indentation, or at once."""
+        """The last line of what begins here: that of the `}` with its indentation, or the same line."""
         if re.search(r"[;}]$", self.lines[line]):
             return line
         indent = re.match(r" *", self.lines[line])[0]
@@ -224,7 +224,7 @@ class SourceFile:
         raise NotFound(f"{self.path} has no function `{name}`")
 
     def impls(self, kind):
-        """The lines at which an `impl` of a type or a trait begins, also `Trait for Type`."""
+        """The lines at which an `impl` of a type or a trait (`Trait for Type`) begins."""
         head = re.compile(rf"(pub )?trait {kind}\b|impl\b[^\n]*\b{kind}\b")
         if " for " in kind:
             head = re.compile(rf"impl\b[^\n]*\b{kind.split(' for ')[0]}(<[^\n]*>)? for {kind.split(' for ')[1]}\b")
@@ -244,8 +244,8 @@ class SourceFile:
                     yield Contract(self, f"{kind}::{call[1]}" if kind else call[1], line)
 
     def item(self, word, is_whole):
-        """The declaration of a type; of one that contracts see as another value, that value; of a trait the ghost
-        members, and where that is wanted what its calls promise."""
+        """The declaration of a type, or the value as which contracts see it; of a trait the ghost members and, if asked
+        for, the contracts of its calls."""
         found = re.search(DECLARED.format(word.name), self.text, re.MULTILINE)
         line = self.text[:found.start()].count("\n")
         body = self.lines[line:self.block_end(line) + 1]

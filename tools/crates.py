@@ -1,4 +1,4 @@
-"""The crates of the repository, as crates.txt has them."""
+"""The crates of the repository, from crates.txt."""
 
 from pathlib import Path
 
@@ -6,7 +6,7 @@ ROOT = Path(__file__).resolve().parent.parent
 
 
 def crates_below():
-    """By a crate's name, the crates of the repository that it stands on, with itself."""
+    """The crates of the repository that a crate depends on, with itself, by its name."""
     lines = (ROOT / "crates.txt").read_text().splitlines()
     rows = [line.partition(":") for line in lines if line[:1] not in ("", "#")]
     direct = {left.split()[0]: right.split() for left, _, right in rows}

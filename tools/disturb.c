@@ -1,5 +1,5 @@
-/* Loaded before the C library: disturbs the reads of the file whose path is in DISTURBED_FILE. Those from the offset in
-   FAILS_FROM on fail, and each is interrupted first, as often in a row as INTERRUPTIONS says. */
+/* To be preloaded: disturbs the reads of the file whose path is in DISTURBED_FILE. Reads from the offset FAILS_FROM on
+   fail, and each read is first interrupted INTERRUPTIONS times in a row. */
 #define _GNU_SOURCE
 #include <errno.h>
 #include <limits.h>
@@ -26,7 +26,7 @@ static int is_disturbed(int descriptor) {
     return disturbed && strcmp(path, disturbed) == 0;
 }
 
-/* How many bytes may be read from an offset on, of those that are asked for; -1 where the read fails. */
+/* How many of the requested bytes may be read from an offset on; -1 if the read fails. */
 static ssize_t allowed(off_t offset, size_t asked) {
     long interruptions = setting("INTERRUPTIONS", 0);
     if (calls++ % (interruptions + 1) < interruptions) {

@@ -15,19 +15,19 @@ from faults_rows import (PATTERN, SECONDS, Z0, Z1, Z1024, Z1025, closing, limite
                          warning)
 
 OUT_OF_MEMORY = "b3sum: out of memory\n"
-# A list may have so many bytes; and the digest of one byte more, all 0, by another implementation.
+# The most bytes of a list; and the digest of one byte more, all 0, by another implementation.
 LARGEST = 1 << 30
 LARGE = "8c5cb1562ffe2af8b4c8c7f0b4395c518a027f6d97c4bfc950f91eaa77e00e90"
-# A length that no 32 bits hold; and the digest of so many bytes, all 0, by another implementation.
+# A length over 32 bits; and the digest of that many bytes, all 0, by another implementation.
 HUGE_LEN = (5 << 30) + 1
 HUGE = "f7b8b344dd849ce2b499c285a4865025866ba33ff78204c332412a9347b1d6c6"
 PIECE = 1 << 18
-# Lengths around which the program goes another way. What comes by a pipe is read 64 KiB at a time. Of a file that is
-# longer than a piece, and alone, all workers read pieces: two, three and more of them.
+# Lengths around which the program works differently. A pipe is read 64 KiB at a time. In a single file that is longer
+# than a piece all workers read pieces: two, three and more of them.
 WAYS = (1 << 16, PIECE, 2 * PIECE, 3 * PIECE, 4 * PIECE, 1 << 22)
-# The length of files that change meanwhile: all workers read one that is alone, and one worker each of many.
+# The length of files that change during a run: a single one is read by all workers, each of many by one worker.
 CHANGING = 10 * PIECE
-# A plain file that tells 4,096 bytes and has fewer.
+# A plain file that reports 4,096 bytes and has fewer.
 SHORTER = "/sys/devices/system/cpu/possible"
 
 
@@ -50,7 +50,7 @@ def files_that_cannot_be_read(faults):
     with opened_folder() as folder:
         faults.row("a folder as input", [], "", said, 1, stdin=folder)
         faults.row("a folder as a list from input", ["-c"], "", said, 1, stdin=folder)
-    # A file that is opened then has the input's descriptor, and must not be taken for it.
+    # A file that is opened then gets the descriptor of standard input, and must not be confused with it.
     for given, out in ((["-", "z"], f"{Z1}  z\n"), (["z", "-"], f"{Z1}  z\n"), (["-c", "-"], "")):
         faults.row(f"a closed input, {' '.join(given)}", given, out, said, 1, preexec_fn=closing(0))
     Path("of-input").write_text(f"{Z0}  -\n" * 2)
@@ -96,7 +96,7 @@ def files_of_every_kind(faults):
 
 
 def long_files(faults):
-    """Random bytes of each length around which the program goes another way, by one thread and by many."""
+    """Random bytes of each length around which the program works differently, with one thread and with many."""
     content = os.urandom(max(WAYS) + 1)
     tree = Tree(content)
     for way in WAYS:
@@ -113,7 +113,7 @@ def long_files(faults):
 
 
 def number_of_threads(faults):
-    """A run over a long file has as many threads as it is told, and at no time more."""
+    """A run over a long file has as many threads as requested, and never more."""
     for told in (1, 2, 4):
         run = subprocess.Popen([faults.program, "--num-threads", str(told), "large"], stdout=subprocess.PIPE)
         most = 0
@@ -126,12 +126,12 @@ def number_of_threads(faults):
 
 
 def lines_of_one(digests, name, times):
-    """So many lines of one name, each with one of the digests."""
+    """This many lines of one name, each with one of the digests."""
     return re.compile(f"(({'|'.join(digests)})  {name}\n){{{times}}}".encode())
 
 
 def growing_files(faults):
-    """A file that grows while it is read has the digest of what it held at one moment."""
+    """A file that grows while it is read gets the digest of its content at one moment."""
     page, begins = 4096, 1 << 16
     tree = Tree(PATTERN)
     digests = [tree.digest(length) for length in range(begins, len(PATTERN) + 1, page)]
@@ -155,7 +155,7 @@ def growing_files(faults):
 
 
 def changing_files(faults):
-    """Each line has the digest of what one file held, also where others are put in its place, cut it or remove it."""
+    """Each line has the digest of the content of one file, even if that is replaced, truncated or removed meanwhile."""
     contents = [os.urandom(CHANGING) for _ in range(2)]
     trees = [Tree(content) for content in contents]
     replaced_files(faults, contents, trees)
@@ -201,7 +201,7 @@ def removed_files(faults, content, expected):
 
 
 def replacing(is_over):
-    """Puts one file and another, in turn, in the place of a third."""
+    """Replaces a file by one and then by another, again and again."""
     while not is_over.is_set():
         for name in ("one", "other"):
             os.link(name, "next")

@@ -1,4 +1,4 @@
-"""Rows of tools/faults: lists of every kind, and what is said of them."""
+"""Rows of tools/faults: lists of every kind, and the results of their checks."""
 
 import os
 import resource
@@ -10,7 +10,7 @@ from faults_rows import Z0, Z1, Faults, limited, warning
 
 
 def lists(faults):
-    """Lists as they come by mail, by accident and by malice."""
+    """Lists that were mailed, damaged or forged."""
     three = f"{Z1}  x\r\n{Z1}  y\n{Z0} ".encode()
     Path("x").write_bytes(b"\0")
     Path("y").touch()
@@ -43,7 +43,7 @@ def lists(faults):
 
 
 def malformed_lines(faults):
-    """Each reason for which a line is refused; the line after it is read."""
+    """Each reason to refuse a line; the next line is still read."""
     for reason, line in {"empty line": b"", "not text": b"\xff\xfe", "short line": b"\\",
                          "bad digits": f"g{Z0[1:]}  e".encode(), "missing spaces": f"{Z0} *e".encode(),
                          "no name": f"{Z0}  ".encode(), "bad escape": f"\\{Z0}  \\q".encode(),
@@ -58,7 +58,7 @@ def malformed_lines(faults):
 
 
 def lists_of_lists(faults):
-    """Lists that name each other and themselves: there they are files like any other."""
+    """Lists that name one another and themselves: they are checked like any other file."""
     Path("first").write_text(f"{Z0}  second\n{Z1}  z\n")
     Path("second").write_text(f"{digest(Path('first').read_bytes())}  first\n{Z0}  second\n")
     told = "second: FAILED\nz: OK\n", "first: OK\nsecond: FAILED\n"
@@ -73,7 +73,7 @@ def lists_of_lists(faults):
 
 
 def missing_files(faults):
-    """What is passed over where missing files are, among real files: what is not there, and nothing else."""
+    """--ignore-missing skips only files that do not exist."""
     words = ["-c", "--ignore-missing"]
     for path, name in {"missing": "a missing file", "dangling": "a link to nothing", "e/x": "a file taken for a folder",
                        "e/": "a file with a slash after it"}.items():
@@ -95,7 +95,7 @@ def missing_files(faults):
 
 
 def closed_to_others(faults, words):
-    """A file without leave to read is there; root, who reads all, asks as another user."""
+    """A file without read permission is not missing. Root, who can read it, runs this as another user."""
     given, unread = f"{Z0}  e\n{Z0}  closed\n".encode(), "e: OK\nclosed: FAILED (cannot read)\n"
     if os.geteuid() != 0:
         faults.row("a file without leave to read, not passed over", words, unread, warning(1), 1, input=given)
@@ -135,7 +135,7 @@ def strict_and_silent_checks(faults):
 
 
 def truncated_lists(faults):
-    """The first bytes of a plain and of a marked line, and what its first line then says."""
+    """A plain line and a line with escapes, each cut off after every number of bytes."""
     def is_due(reason=None, shown=None, good=False):
         if reason:
             return "", f"b3sum: line 1: {reason}\n" + warning(1), 1

@@ -1,4 +1,4 @@
-"""Rows of tools/faults: which bytes are read, that no failed read is an end, and that no file is changed."""
+"""Rows of tools/faults: which bytes are read, that a failed read is not taken for the end, and that no file changes."""
 
 import os
 import shutil
@@ -9,13 +9,13 @@ from blake3 import Tree, digest
 from faults_rows import PATTERN, Z0, Z1, warning
 
 DISTURBER = Path(__file__).resolve().parent / "disturb.c"
-# Of one block, of a chunk and a byte, of two reads in order, and of spans that workers read.
+# Lengths of one block, of a chunk and a byte, of two reads in order, and of spans that workers read.
 DISTURBED = (3, 1025, (1 << 16) + 1, 1 << 19)
 OTHER = PATTERN[::-1]
 
 
 def disturbed_reads(faults):
-    """A read that fails in the middle of a file ends it, and one that signals interrupt is made again."""
+    """A file fails if a read in the middle of it fails. A read that is interrupted by signals is repeated."""
     if not shutil.which("cc"):
         faults.skip("reads that fail in the middle of a file, and those that are interrupted", "there is no C compiler")
         return
@@ -61,7 +61,7 @@ def reads_that_end(faults, name, expected, env):
 
 
 def outputs_that_are_files(faults):
-    """Standard input that is a plain file is not taken for an output that is one."""
+    """Standard input that is a plain file is not confused with an output that is one."""
     for length in (1, 1025, len(PATTERN)):
         for name, content in (("given", PATTERN[:length]), ("outs", OTHER), ("errs", OTHER)):
             Path(name).write_bytes(content)
@@ -74,7 +74,7 @@ def outputs_that_are_files(faults):
 
 
 def a_file_named_as_input(faults):
-    """A file whose name is `-` is not standard input, and not taken for it."""
+    """A file whose name is `-` is not confused with standard input."""
     Path("-").write_bytes(OTHER)
     content = PATTERN[:1025]
     line, other = f"{digest(content)}  -\n", f"{digest(OTHER)}  ./-\n"
@@ -90,7 +90,7 @@ def a_file_named_as_input(faults):
 
 
 def state(folder):
-    """What is there, as far as a change of it would show."""
+    """The state of all files, to find changes."""
     told = {}
     for path in [Path(folder), *Path(folder).iterdir()]:
         status = path.lstat()
@@ -100,7 +100,7 @@ def state(folder):
 
 
 def a_folder_of_odd_names(faults):
-    """Names that are alike but for blanks, line ends, case or signs, each with its own content. No run changes one."""
+    """Names that differ only in blanks, line ends, case or signs, each with its own content. No run changes a file."""
     names = ["n", " n", "n ", " n ", "\tn", "n\t", "n\n", "\nn", "n\r", "n\r\n", "\\n", "n\\", "N", "nn", "-n", "--n",
              "n.", ".n", "ñ", "n\u0303", "*", "?", "'", '"', "$n", "~", "n" * 255, "n" * 254, " " * 255,
              f"{Z0}  n", "#n"]
@@ -134,7 +134,7 @@ def line_of(name, expected):
 
 
 def texts_in_order(faults):
-    """What is said of a name goes out, on both outputs, before what is said of the next: here both are one pipe."""
+    """The texts about a name are written before those about the next, on both outputs. Here both are one pipe."""
     unread, bad = "b3sum: missing: cannot read\n", "b3sum: : bad name\n"
     line = f"{Z1}  z\n"
     faults.row("lines and complaints over one pipe", ["z", "z", "", "z", "missing", "z", ""],

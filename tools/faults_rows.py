@@ -1,4 +1,4 @@
-"""What the rows of tools/faults stand on: values of the standard, the texts of faults, and the runs of the program."""
+"""Shared by the rows of tools/faults: values of the standard, texts of errors, and runs of the program."""
 
 import os
 import re
@@ -45,7 +45,7 @@ def opened_folder():
 
 @contextmanager
 def meanwhile(change):
-    """Runs a change in a thread, which learns when the rows are over, and waits for its end."""
+    """Runs a change in a thread during the rows, then tells it to stop, and waits for its end."""
     is_over = threading.Event()
     changer = threading.Thread(target=change, args=[is_over])
     changer.start()
@@ -57,13 +57,13 @@ def meanwhile(change):
 
 
 class Faults:
-    """Runs rows in a folder of their own, and counts those that differ."""
+    """Runs the rows in a folder of their own, and counts those that differ."""
 
     def __init__(self, program):
         self.program, self.rows, self.differing = program, 0, 0
 
     def row(self, name, words, out="", err="", status=0, **streams):
-        """One run. Without other streams its input is empty."""
+        """One run. By default its input is empty."""
         if not {"input", "stdin"} & streams.keys():
             streams["stdin"] = subprocess.DEVNULL
         streams = {"stdout": subprocess.PIPE, "stderr": subprocess.PIPE, **streams}
@@ -75,7 +75,7 @@ class Faults:
         self.compare(name, got, (out, err, status))
 
     def compare(self, name, got, expected):
-        """Tells what differs. An output of None went to a stream that keeps nothing."""
+        """Prints what differs. An output of None was not captured."""
         self.rows += 1
         told = []
         for label, is_now, is_due in zip(("out", "err", "status"), got, expected):

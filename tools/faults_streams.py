@@ -1,4 +1,4 @@
-"""Rows of tools/faults: outputs that fail, readers that go away, and what comes by pipes, files and terminals."""
+"""Rows of tools/faults: outputs that fail, readers that exit, and input from pipes, files and terminals."""
 
 import os
 import re
@@ -12,14 +12,14 @@ from pathlib import Path
 from blake3 import digest
 from faults_rows import CANNOT_WRITE, KEY, KEYED_Z0, PATTERN, Z0, Z1, Z1025, closing
 
-# A plain file that tells no length, and whose end does not come.
+# A plain file that reports no length, and does not end.
 KERNEL_LOG = "/proc/kmsg"
 # What is typed where a terminal's input ends.
 END_OF_INPUT = b"\x04"
 
 
 def full_and_closed_outputs(faults):
-    """A stream that takes nothing: the fault is said where it can be, and the status says it in any case."""
+    """Streams that cannot be written: the error is reported if possible, and always by the exit status."""
     full = open("/dev/full", "wb")
     for words in ([], ["e"], ["--raw", "e"], ["--no-names", "e"], ["-c", "good"], ["--help"], ["--version"]):
         name = f"{' '.join(words) or 'no words'}, "
@@ -50,7 +50,7 @@ def a_reader_that_goes_away(faults):
         os.close(reader)
         faults.row(f"a reader gone from {stream}", words, err=err, status=1, **{stream: writer})
         os.close(writer)
-    # Far more lines than a pipe holds.
+    # Far more lines than the buffer of a pipe holds.
     many = ["e"] * 20000
     reader, writer = os.pipe()
     os.set_blocking(writer, False)
@@ -65,7 +65,7 @@ def a_reader_that_goes_away(faults):
 
 
 def input_in_the_middle(faults):
-    """Input among files, by a pipe and as a plain file, which is read from where it stands on to its end."""
+    """Standard input among files, as a pipe and as a plain file, which is read from its position to its end."""
     for length in (1, 1025, len(PATTERN)):
         among = f"{Z0}  e\n{digest(PATTERN[:length])}  -\n{Z1}  z\n"
         faults.row(f"{length} bytes by a pipe among files", ["e", "-", "z"], among, input=PATTERN[:length])
@@ -93,7 +93,7 @@ def input_in_the_middle(faults):
 
 @contextmanager
 def terminal(typed):
-    """A terminal at which this was typed, and then the end of input; and its name."""
+    """A terminal at which a text and then the end of input was typed; and its name."""
     keyboard, screen = os.openpty()
     os.write(keyboard, typed + END_OF_INPUT)
     yield screen, os.ttyname(screen)
@@ -102,7 +102,7 @@ def terminal(typed):
 
 
 def terminals(faults):
-    """What is typed at a terminal, as input, as a file and as a list."""
+    """A terminal as standard input, as a file and as a list."""
     typed = b"typed\n"
     digits = digest(typed)
     with terminal(typed) as (screen, _):
@@ -127,7 +127,7 @@ def slow_writers(faults):
         writer = threading.Thread(target=feed, args=["fifo"])
         writer.start()
         faults.row(name, words, out, err, status)
-        # Lets the writer go on where nobody took the FIFO.
+        # Lets the writer continue if nobody opened the FIFO.
         os.close(os.open("fifo", os.O_RDONLY | os.O_NONBLOCK))
         writer.join()
 
@@ -154,7 +154,7 @@ def slow_writers(faults):
 
 
 def inputs_that_are_long_in_coming(faults):
-    """The line of a file that takes a thread to hash is not held back by a name that waits for its writer."""
+    """The line of a file that a thread hashes is not delayed by a name that waits for its writer."""
     content = 2 * PATTERN
     Path("mebibyte").write_bytes(content)
     line = f"{digest(content)}  mebibyte\n"
@@ -178,8 +178,8 @@ def inputs_that_are_long_in_coming(faults):
 
 
 def writes_of_lines(faults):
-    """Lines that come soon after one another go in one write by a pipe, and in one each over a terminal. The writes are
-    counted while the run waits for a FIFO, before which all lines have to be there."""
+    """Lines in quick succession are written together to a pipe, and one by one to a terminal. The writes are counted
+    while the run waits for a FIFO, before which all lines must have been written."""
     names = [f"zero{number}" for number in range(300)]
     for name in names:
         Path(name).write_bytes(b"\0")

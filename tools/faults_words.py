@@ -1,4 +1,4 @@
-"""Rows of tools/faults: words, names and keys."""
+"""Rows of tools/faults: arguments, names and keys."""
 
 import os
 import re
@@ -10,12 +10,12 @@ from faults_rows import KEY, KEYED_Z0, Z0, closing, opened_folder, warning
 CONTEXT = "BLAKE3 2019-12-27 16:29:52 test vectors context"
 DERIVED_Z0 = "2cc39783c223154fea8dfb7c1b1660f2ac2dcbd1c1de8277b0b0dd39b7e50d7d"
 NOT_THE_KEY = "b3sum: the key is not 32 bytes\n"
-# What the library that reads the words says is its own; that it says something is not.
+# The text of an error that clap finds is not checked, only that there is one.
 WORDS_FAULT = re.compile(rb"error: .+", re.DOTALL)
 VERSION = re.compile(rb"b3sum \d+\.\d+\.\d+\n")
 LAST_PLACE = str((1 << 64) - 1)
 MAN_PAGE = Path(__file__).resolve().parent.parent / "b3sum.1"
-# What a check cannot be used with, in the order in which it is refused, and the value of each.
+# The options that cannot be used with --check, in the order in which they are refused, with their values.
 EXCLUDED = {"--keyed": [], "--derive-key": ["c"], "--length": ["32"], "--seek": ["0"], "--raw": [], "--no-names": [],
             "--tag": []}
 
@@ -40,7 +40,7 @@ def words_of_sums(faults):
 
 
 def refused_words(faults):
-    """Words that do not go together, of which the first refusal is said, and words that are none."""
+    """Options that cannot be combined, of which the first refusal is written, and invalid options."""
     for number, (option, value) in enumerate(EXCLUDED.items()):
         others = [word for later in list(EXCLUDED)[number + 1 :] for word in (later, *EXCLUDED[later])]
         faults.row(f"--check and {option}", ["e", *others, option, *value, "--check"],
@@ -70,7 +70,7 @@ def refused_words(faults):
 
 
 def help_and_version(faults):
-    """The texts of help and version; and the limits that the help tells are those of the manual page."""
+    """The texts of help and version; the limits in the help are those of the manual page."""
     told = ("-c", *EXCLUDED, "-l", "--quiet", "--ignore-missing", "--status", "--strict", "-w, --warn", "--num-threads",
             "--no-mmap", "--help", "--version", "FILE")
     help_text = re.compile("".join(f"(?=.*{word})" for word in told).encode() + rb".+\n", re.DOTALL)

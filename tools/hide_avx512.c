@@ -1,5 +1,5 @@
-/* Loaded before the C library: hides AVX-512 from CPUID, so that a program takes its code for AVX2. Each CPUID faults,
-   and the handler answers in its place. Where the processor or the system has no such faults, the program ends with 99. */
+/* To be preloaded: hides AVX-512 from CPUID, so that a program uses its code for AVX2. Each CPUID instruction faults,
+   and a signal handler gives the result. Without support for such faults the program exits with status 99. */
 #define _GNU_SOURCE
 #include <asm/prctl.h>
 #include <cpuid.h>
@@ -24,7 +24,7 @@ static void answer(int number, siginfo_t *info, void *context) {
     uint32_t leaf = (uint32_t)registers[REG_RAX], part = (uint32_t)registers[REG_RCX], a, b, c, d;
     (void)info;
     if (next[0] != CPUID[0] || next[1] != CPUID[1]) {
-        /* Another fault: it comes again, and ends the program. */
+        /* Another fault: it occurs again, and ends the program. */
         signal(number, SIG_DFL);
         return;
     }

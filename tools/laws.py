@@ -2,7 +2,7 @@
 
 from dataclasses import dataclass
 
-# From `main` down, each function calls the next.
+# Chains of calls from `main` down: each function calls the next.
 TO_CALL = (("b3sum/src/main.rt", "main"), ("b3sum/src/call.rt", "call_with"))
 TO_SHELF = (*TO_CALL, ("b3_program/src/files.rt", "FileShelf::new"))
 TO_OUTPUT = (*TO_CALL, ("b3_program/src/outputs.rt", "OutputSink::new"))
@@ -16,23 +16,23 @@ TO_TEXT = (*TO_SUM, ("b3_check/src/sum.rt", "sum_names"), ("b3_check/src/engine.
 TO_PLAIN = (*TO_TEXT, ("b3_check/src/message.rt", "plain_line"), ("b3_lines/src/writing.rt", "write_line"))
 TO_TAGGED = (*TO_TEXT, ("b3_check/src/message.rt", "tagged_line"), ("b3_lines/src/tagging.rt", "write_tagged"))
 
-# The traits at which the proof ends: what their calls promise is assumed of a disk, and so is to be read.
+# The traits at which the proof ends: their contracts are assumed of the real disk, so they have to be read.
 ASSUMED = ("Disk", "DiskFile", "Input", "Stream")
 
-# What names a handle of the system, but for threads and memory.
+# The names of handles of the system, except for threads and memory.
 HANDLES = (r"\bHostRuntime\b|\buse std::(?:fs|os|net|rt|process::[a-z])"
            r"|\buse std::io::(?:\{[^}]*\b)?(?:Read|Write|Seek)\b")
 
-# Types of which a law reads no more than the fields that clauses of their calls name.
+# Types of which a law needs only the fields that the clauses of their calls name.
 OPAQUE = ("FileShelf", "OutputSink")
 
-# The traits that who calls a library implements.
+# The traits that callers of a library implement.
 OWED = ("Gate", "Named", "Source")
 
 
 @dataclass(frozen=True)
 class Clauses:
-    """Clauses of a call, by their names; all of them where none is named."""
+    """Clauses of a call, by name; all of them if none is named."""
     file: str
     function: str
     names: tuple = ()
@@ -40,7 +40,7 @@ class Clauses:
 
 @dataclass(frozen=True)
 class Ghosts:
-    """Ghost members of an `impl`, by their names: what a type tells."""
+    """Ghost members of an `impl`, by name: what a type tells contracts."""
     file: str
     block: str
     names: tuple

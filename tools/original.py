@@ -7,7 +7,7 @@ LEVELS = ("sse2", "sse41", "avx2", "avx512")
 
 
 def original_code(named=None):
-    """The folder that was named, or that of the Debian package, or None where it has no such code."""
+    """The folder that was named, or that of the Debian package, or None if the code is not there."""
     found = [Path(named)] if named else sorted(REGISTRY.glob("blake3-*/c"))
     return next((folder for folder in found if (folder / "blake3.c").exists()), None)
 

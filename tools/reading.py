@@ -1,4 +1,4 @@
-"""What has to be read for each law: its clauses, all that they cite, and how much that is."""
+"""What has to be read for each law: its clauses, everything that they cite, and how much that is."""
 
 import re
 import shutil
@@ -11,13 +11,13 @@ from laws import ASSUMED, CONTRACT, LAWS, LIBRARIES, OPAQUE, OWED, Clauses, Ghos
 
 SECONDS_A_LINE = 8
 
-# The libraries whose pages `std` passes on.
+# The libraries that `std` re-exports.
 PASSED_ON = ("core", "std_alloc", "std_heap", "std_io")
 
 
 @dataclass
 class Reading:
-    """What a law stands on: what states it, all items, those that no law before it had, and words of the kit."""
+    """What a law depends on: the clauses that state it, all items, those that are new with it, and words of the kit."""
     roots: list = field(default_factory=list)
     items: list = field(default_factory=list)
     fresh: list = field(default_factory=list)
@@ -37,13 +37,13 @@ class Reading:
         return sum(it.lines() for it in self.fresh)
 
     def minutes(self):
-        """How long the clauses and what no law before it had take to read."""
+        """How many minutes it takes to read the clauses and what is new."""
         lines = self.new_lines() + sum(it.lines() for it in self.roots)
         return -(-lines * SECONDS_A_LINE // 60)
 
 
 def root_items(root):
-    """What is read of a root."""
+    """What has to be read of a root."""
     source = source_file(f"crates/{root.file}")
     if isinstance(root, Clauses):
         return [source.contract(root.function).item(root.names)]
@@ -53,7 +53,7 @@ def root_items(root):
 
 
 def reading_of(law, whole, seen):
-    """The reading of a law, after those whose words are given."""
+    """The reading of a law, after laws that had these words."""
     reading = Reading()
     for root in law.roots:
         try:
@@ -67,7 +67,7 @@ def reading_of(law, whole, seen):
 
 
 def readings(laws, whole):
-    """Each law with its reading, in their order."""
+    """Each law with its reading, in order."""
     seen, found = set(), []
     for law in laws:
         reading = reading_of(law, whole, seen)
@@ -123,13 +123,13 @@ def many(count, name):
 
 
 def kit_folder():
-    """The folder of the kit's libraries, where the toolchain is there."""
+    """The folder of the kit's libraries, if the toolchain is installed."""
     command = shutil.which("rt")
     return Path(command).resolve().parents[1] / "rattle" if command else None
 
 
 def page_file(path, folder):
-    """The page of the kit that has the words of a path, where one has them."""
+    """The page of the kit for a path, if there is one."""
     first, *rest = path.split(".")
     if first == "Rattle" and len(rest) > 2:
         places = [Path(library, *rest[1:]) for library in (rest[0], *PASSED_ON)]
@@ -147,7 +147,7 @@ def type_of(path):
 
 @cache
 def page_of(path, name):
-    """The page of the kit that defines a word, by the path that it is imported from; of a type its module."""
+    """The page of the kit that defines a word, given the path of its import; for a type its module."""
     folder = kit_folder()
     page = page_file(path, folder) if folder else None
     if page is None:

@@ -1,5 +1,5 @@
-/* Loaded before the C library: refuses one growth of memory, the one whose number, from 1, is in REFUSED_GROWTH, and
-   then writes a byte to the descriptor that is in REFUSAL_TOLD. */
+/* To be preloaded: refuses one memory allocation, whose number, counted from 1, is in REFUSED_GROWTH, and writes a byte
+   to the descriptor in REFUSAL_TOLD when that happens. */
 #include <errno.h>
 #include <stdatomic.h>
 #include <stdlib.h>

@@ -1,4 +1,4 @@
-/* Calls each function of the library as C programs do, and ends with 1 where an output is not what is wanted. */
+/* Calls each function of the library as C programs do. The exit status is 1 if an output is wrong. */
 #define _DEFAULT_SOURCE
 #include <blake3.h>
 
@@ -8,7 +8,7 @@
 #include <sys/mman.h>
 #include <unistd.h>
 
-/* A step divides the longest input. */
+/* STEP divides LONGEST. */
 enum { LONGEST = 1025, STEP = 41, THREADS = 8, TURNS = 200, OFFSETS = 64 };
 
 enum mode { HASH, KEYED, DERIVED };
@@ -50,7 +50,7 @@ static void begin(blake3_hasher *hasher, enum mode mode) {
     }
 }
 
-/* Whether these are the first bytes of the output that a vector has. */
+/* Whether these are the first bytes of the output of a vector. */
 static int is_digest(const uint8_t *bytes, const char *digest) {
     char digits[2 * BLAKE3_OUT_LEN + 1];
     for (size_t i = 0; i < BLAKE3_OUT_LEN; i++) {
@@ -120,7 +120,7 @@ static void check_seeks(void) {
     expect(memcmp(&hasher, &before, sizeof hasher) == 0, "an output leaves the hasher as it is");
 }
 
-/* The last byte of the output is at place 2^64 - 2: past it nothing is written. */
+/* The last byte of the output is at offset 2^64 - 2: nothing is written after it. */
 static void check_end(void) {
     blake3_hasher hasher;
     uint8_t zeros[3] = {0, 0, 0}, ones[3] = {0xff, 0xff, 0xff};
@@ -150,7 +150,7 @@ static void check_offsets(void) {
     }
 }
 
-/* A copy at each place of an input goes on by itself, and the hasher that was copied too. */
+/* A hasher that is copied at any offset of an input and its copy are independent. */
 static void check_copies(void) {
     blake3_hasher hasher, copy;
     blake3_hasher *moved = malloc(sizeof *moved);
@@ -169,7 +169,7 @@ static void check_copies(void) {
     free(moved);
 }
 
-/* So many bytes, with a page before or after them that no program may touch. */
+/* Memory with an inaccessible page before or after it. */
 static uint8_t *guarded(size_t len, int after) {
     size_t page = (size_t)sysconf(_SC_PAGESIZE), inside = (len + page - 1) / page * page;
     uint8_t *all = mmap(NULL, inside + 2 * page, PROT_NONE, MAP_PRIVATE | MAP_ANONYMOUS, -1, 0);

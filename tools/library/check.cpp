@@ -1,4 +1,4 @@
-// The library from C++: hashers in a container, copied and assigned. It ends with 1 where a digest is not what is wanted.
+// The library in C++: hashers in a container, copied and assigned. The exit status is 1 if a digest is wrong.
 #include <blake3.h>
 
 #include <array>

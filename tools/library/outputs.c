@@ -1,8 +1,8 @@
 /*
- * Hashes what it reads, by the calls of blake3.h: the library's, or those of another implementation that it is built
- * with, beside which the outputs are compared. Of each case it reads, as 64-bit numbers, the mode (0: hash, 1: keyed,
- * 2: derived), the length of the context, the number of pieces, the place and the length of the output; then the
- * 32 bytes of the key and the context; and then each piece, its length first. It writes the output's bytes.
+ * Hashes the cases in its input by the calls of blake3.h. It is built with the library or with another implementation,
+ * to compare the outputs. A case is, as 64-bit numbers, the mode (0: hash, 1: keyed, 2: derived), the length of the
+ * context, the number of pieces, the offset and the length of the output; then the 32 bytes of the key, and the
+ * context; and then each piece after its length. It writes the bytes of the output.
  */
 #include <blake3.h>
 

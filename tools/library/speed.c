@@ -1,7 +1,7 @@
 /*
- * Times two libraries with the calls of blake3.h, which are loaded beside one another and take turns: speed OURS THEIRS.
- * Of each length it writes a line: the length, and for each library the least time, in nanoseconds, in which an input of
- * so many bytes becomes a digest. It ends with 1 where the digests differ.
+ * Times two libraries with the calls of blake3.h, which are both loaded and take turns: speed OURS THEIRS.
+ * Writes a line for each length: the length, and for each library the least time, in nanoseconds, to hash an input of
+ * that length. The exit status is 1 if the digests differ.
  */
 #define _DEFAULT_SOURCE
 #include <blake3.h>
@@ -11,7 +11,7 @@
 #include <stdlib.h>
 #include <time.h>
 
-/* A turn hashes one input, or as many as make its bytes. */
+/* A turn hashes one input, or as many short ones as make up TURN_LEN bytes. */
 enum { LIBRARIES = 2, TURNS = 300, LONGEST = 1 << 20, TURN_LEN = 1 << 18 };
 
 static const size_t LENGTHS[] = {64, 1 << 10, 1 << 14, LONGEST};
@@ -48,7 +48,7 @@ static double now(void) {
     return (double)time.tv_sec * 1e9 + (double)time.tv_nsec;
 }
 
-/* The nanoseconds of one input in a turn, whose last digest is written. */
+/* The nanoseconds for each input of a turn. Stores the last digest. */
 static double turn(const struct library *library, size_t len, uint8_t digest[BLAKE3_OUT_LEN]) {
     size_t times = len < TURN_LEN ? TURN_LEN / len : 1;
     double start = now();
