@@ -2,14 +2,14 @@
 use Rattle.std.proofs.Common.{◌≡◌, ℕ, suc, ◌+◌, ◌-◌, ◌*◌, ◌^◌, ◌<◌, ◌≤◌, List, length, take, drop, sym, ap, ◌∙◌, ◌⊎◌}
 use Rattle.std.proofs.Common.{inl, inr, arith}
 use Rattle.std.proofs.Math.Nat.{pow-suc}
-use Rattle.std.proofs.lemmas.Nat.{mul-le}
+use Rattle.std.proofs.lemmas.Nat.{mul-le, pow_pos}
 use Rattle.std.proofs.lemmas.List.{length-take, length-take-le, length-drop, take_all, drop-drop, drop-take, take-take}
 use Rattle.std.proofs.lemmas.Bool.{cases_lt}
 use Rattle.b3_core.specs.Nodes.{chaining}
 use Rattle.b3_core.specs.Tree.{parent_node, top}
 use Rattle.b3_core.specs.Lanes.{chunk_chaining, part}
 use Rattle.b3_core.specs.declared.modes.Mode.{Mode}
-use Rattle.b3_core.proofs.Subtrees.{lt-pow, top-chunk, top-joined}
+use Rattle.b3_core.proofs.Subtrees.{top-chunk, top-joined}
 
 -- a part within the front
 pub part-front : (w j n : ℕ) (xs : List ℕ) → 1024 * w * j + 1024 * w ≤ n → part w j (take n xs) ≡ part w j xs
@@ -39,10 +39,6 @@ part-right w j xs =
     ∙ drop-take (1024 * w) (1024 * w) (drop (1024 * (w * 2) * j) xs)
     ∙ ap (take (1024 * w)) (drop-drop (1024 * w) (1024 * (w * 2) * j) xs ∙ ap (λ m. drop m xs) at)
 
--- a power of two is not zero
-pub some_pow : (level : ℕ) → 1 ≤ 2 ^ level
-some_pow level = omega (arith, lt-pow level)
-
 -- the top over a full part is the parent of the tops over its halves
 pub part-joined : (level j : ℕ) (mode : Mode) (first : ℕ) (xs : List ℕ)
     → 1024 * 2 ^ suc level * j + 1024 * 2 ^ suc level ≤ length xs
@@ -52,7 +48,7 @@ pub part-joined : (level j : ℕ) (mode : Mode) (first : ℕ) (xs : List ℕ)
 part-joined level j mode first xs fits =
     let w : ℕ = 2 ^ level in
     let twice : 2 ^ suc level ≡ w * 2 = pow-suc 2 level in
-    let some : 1 ≤ w = some_pow level in
+    let some = pow_pos level in
     let long : length (part (2 ^ suc level) j xs) ≡ 1024 * 2 ^ suc level =
     length-take-le (1024 * 2 ^ suc level) (drop (1024 * 2 ^ suc level * j) xs)
     (omega (arith, length-drop (1024 * 2 ^ suc level * j) xs)) in

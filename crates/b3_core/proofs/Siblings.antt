@@ -3,14 +3,14 @@ use Rattle.std.proofs.Common.{inl, inr, ◌⊎◌, ◌≡◌, ℕ, suc, ◌+◌,
 use Rattle.std.proofs.lemmas.Bool.{cases_lt, cases_eq}
 use Rattle.std.proofs.lemmas.Grind.{not_there}
 use Rattle.std.proofs.lemmas.Nat.{div-add-mod', one_shl, pow_pos}
-use Rattle.std.proofs.Math.Nat.{mul-mod_left, pow-le-pow_right}
+use Rattle.std.proofs.Math.Nat.{eq_of_mul-eq-mul_right, mul-mod_left, pow-le-pow_right}
 use Rattle.std.specs.Int.{trailing_zeros, w64}
 use Rattle.b3_core.specs.Tree.{IsLeft}
 use Rattle.b3_core.specs.Subtrees.{AreChildren, AreSiblings, IsSubtree}
 use Rattle.b3_core.specs.Subtrees.IsSubtree.{left_child, right_child}
 use Rattle.b3_core.specs.declared.tree.Span.{Span}
 use Rattle.b3_core.proofs.Grid.{InGrid, InGrid-from_IsSubtree, IsSubtree-from_InGrid, IsSubtree-from_tests, tests-from_IsSubtree}
-use Rattle.b3_core.proofs.Powers.{cancel, double, exponent, lower_multiple, lowest_bit, next_power, not_above}
+use Rattle.b3_core.proofs.Powers.{double, exponent, lower_multiple, lowest_bit, next_power, not_above}
 
 module _ (n : ℕ) where
   left_full : (a c k : ℕ) → c ≡ 2 ^ k → a + c < n
@@ -187,7 +187,7 @@ not_both n a c b d b2 d2 some x y =
     let m = Kids-from_AreChildren n b2 d2 a c some y in
     let same : c ≡ d2 = no_end n a c d2 (omega (arith, k.next, k.ends, k.some)) m.full in
     let odd : a ≡ (2 * m.q + 1) * c = m.back ∙ ap (λ (p : ℕ). (2 * m.q + 1) * p) (sym same) in
-    let halves : 2 * m.q + 1 ≡ 2 * k.q = cancel (2 * m.q + 1) (2 * k.q) c (sym odd ∙ k.front) k.positive in
+    let halves = eq_of_mul-eq-mul_right c k.positive (2 * m.q + 1) (2 * k.q) (sym odd ∙ k.front) in
     absurd (omega arith)
 
 pub one_sibling : (n a c b d b2 d2 : ℕ) → 1 ≤ n → AreChildren n a c b d ⊎ AreChildren n b d a c
