@@ -47,10 +47,10 @@ abbrev row : (ℕ → ℕ) → List ℕ
 row at = map at (range_with_len 0 4)
 
 -- what is one thing of rows that are given word by word is so of all rows
-pub same_of-rows : (f g : List ℕ × List ℕ × List ℕ × List ℕ → List ℕ)
+pub same_on_rows : (f g : List ℕ × List ℕ × List ℕ × List ℕ → List ℕ)
     → ((a b c d : ℕ → ℕ) → f (row a, row b, row c, row d) ≡ g (row a, row b, row c, row d))
     → (v : List ℕ × List ℕ × List ℕ × List ℕ) → AreRows v → f v ≡ g v
-same_of-rows f g each v rows =
+same_on_rows f g each v rows =
     let words : v ≡ (row (λ i. get_or v.0 i 0), row (λ i. get_or v.1 i 0), row (λ i. get_or v.2 i 0),
     row (λ i. get_or v.3 i 0)) =
     λ i. (elements v.0 4 rows.0 i, elements v.1 4 rows.1 i, elements v.2 4 rows.2 i, elements v.3 4 rows.3 i) in
@@ -81,7 +81,7 @@ half_columns-rows v x y z r s rows x_long y_is z_is =
     (λ i. added_rows v.0 v.1 x ++ z_is i ++ zip2 add32 v.2 y ++ y)
     ∙ (λ i. added_rows v.0 v.1 x ++ rotated_row v.1 (zip2 add32 v.2 (y_is i)) s ++ zip2 add32 v.2 (y_is i) ++ y_is i)
     ∙ ap (λ x. half_rows v x r s) x_is
-    ∙ same_of-rows (λ v. half_rows v (row (λ i. get_or x i 0)) r s)
+    ∙ same_on_rows (λ v. half_rows v (row (λ i. get_or x i 0)) r s)
     (λ v. half_columns (joined v) (row (λ i. get_or x i 0)) r s)
     (λ a b c d. half_rows-columns a b c d (λ i. get_or x i 0) r s) v rows
     ∙ sym (ap (λ x. half_columns (joined v) x r s) x_is)
