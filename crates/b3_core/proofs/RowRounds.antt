@@ -46,7 +46,7 @@ length-rotated_row a b y r a_long b_long y_is =
 abbrev row : (ℕ → ℕ) → List ℕ
 row at = map at (range_with_len 0 4)
 
--- what is one thing of rows that are given word by word is so of all rows
+-- two functions of rows are the same where they are so on rows that are given word by word
 pub same_on_rows : (f g : List ℕ × List ℕ × List ℕ × List ℕ → List ℕ)
     → ((a b c d : ℕ → ℕ) → f (row a, row b, row c, row d) ≡ g (row a, row b, row c, row d))
     → (v : List ℕ × List ℕ × List ℕ × List ℕ) → AreRows v → f v ≡ g v

@@ -198,7 +198,7 @@ one_sibling n a c b d b2 d2 some (inr x) (inr y) = one_left n b d b2 d2 a c some
 one_sibling n a c b d b2 d2 some (inl x) (inr y) = absurd (not_both n a c b d b2 d2 some x y)
 one_sibling n a c b d b2 d2 some (inr x) (inl y) = absurd (not_both n a c b2 d2 b d some y x)
 
--- numbers are in order where what puts them in order is there, though it is not known how
+-- the order of two numbers that P gives, where it is only known that P holds
 le-had : (P : Type 0) (x y : ℕ) → ∥ P ∥₁ → (P → x ≤ y) → x ≤ y
 le-had P x y there order =
     elim (cases_lt y x) [
