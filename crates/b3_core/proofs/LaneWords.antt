@@ -1,6 +1,6 @@
 -- What a lane of vectors holds: place by place, after a vector was written, and after a half of G.
-use Rattle.std.proofs.Common.{◌≡◌, ℕ, ◌<◌, List, [], ◌∷◌, length, map, get_or, set, refl, sym, ap, ◌∙◌, ◌⊎◌, inl, inr}
-use Rattle.std.proofs.Common.{◌≢◌, arith, bit_xor, w32}
+use Rattle.std.proofs.Common.{◌≡◌, ℕ, ◌<◌, List, [], ◌∷◌, length, map, get_or, set, refl, sym, ap, ◌∙◌, inl, inr}
+use Rattle.std.proofs.Common.{arith, bit_xor, w32}
 use Rattle.std.specs.Int.{rotate_right}
 use Rattle.std.specs.List.{range_with_len}
 use Rattle.std.specs.Simd.Lanes.{zip2}
@@ -43,17 +43,15 @@ wide-map rows n each = (
 pub lane-set : (j i : ℕ) (v : List (List ℕ)) (row : List ℕ) → lane j (set v i row) ≡ set (lane j v) i (get_or row j 0)
 lane-set j i v row = map-set (λ row. get_or row j 0) v i row
 
-wide-set_at : (v : List (List ℕ)) (n i : ℕ) (row : List ℕ) (k : ℕ) → AreWide n v → length row ≡ 8 → k < n
-    → (k ≡ i) ⊎ (k ≢ i) → length (get_or (set v i row) k []) ≡ 8
-wide-set_at v n i row k wide long k_in (inl same) =
-    rw same (ap length (get_or-set_same v i row [] (omega (arith, wide.0))) ∙ long)
-wide-set_at v n i row k wide long k_in (inr other) =
-    ap length (get_or-set_other v i k row [] other) ∙ wide.1 k k_in
-
 -- the vectors stay wide
 pub wide-set : (v : List (List ℕ)) (n i : ℕ) (row : List ℕ) → AreWide n v → length row ≡ 8 → AreWide n (set v i row)
-wide-set v n i row wide long =
-    (length-set v i row ∙ wide.0, λ k k_in. wide-set_at v n i row k wide long k_in (cases_eq k i))
+wide-set v n i row wide long = (
+  length-set v i row ∙ wide.0,
+  λ k k_in. elim (cases_eq k i) [
+    | inl same ↦ rw same (ap length (get_or-set_same v i row [] (omega (arith, wide.0))) ∙ long)
+    | inr other ↦ ap length (get_or-set_other v i k row [] other) ∙ wide.1 k k_in
+  ],
+)
 
 -- an operator on a vector of each of two lists
 pub lane-zip2 : (f : ℕ → ℕ → ℕ) (m n : ℕ) (v w : List (List ℕ)) (p q j : ℕ) → AreWide m v → AreWide n w

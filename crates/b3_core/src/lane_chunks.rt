@@ -121,8 +121,7 @@ fn chain_lanes(mode: &Mode, first: u64, bytes: &[u8], n: usize) -> [u32x8; 8]
     requires bytes { 1024 * n ≤ length bytes.now }
     requires first { first ≤ 2 ^ 54 }
     ensures wide { AreWide 8 result }
-    ensures lanes { (j : ℕ) → j < n
-        → lane j result ≡ chunk_chaining mode.now first bytes.now j }
+    ensures lanes { (j : ℕ) → j < n → lane j result ≡ chunk_chaining mode.now first bytes.now j }
 {
     let places = places_of(n);
     let (low, high) = counters_from(first);
@@ -142,8 +141,7 @@ pub(crate) fn chain_eight(mode: &Mode, first: u64, bytes: &[u8]) -> [u32x8; 8]
     requires bytes { 8192 ≤ length bytes.now }
     requires first { first ≤ 2 ^ 54 }
     ensures wide { AreWide 8 result }
-    ensures lanes { (j : ℕ) → j < 8
-        → lane j result ≡ chunk_chaining mode.now first bytes.now j }
+    ensures lanes { (j : ℕ) → j < 8 → lane j result ≡ chunk_chaining mode.now first bytes.now j }
 {
     chain_lanes(mode, first, bytes, 8)
 }
@@ -156,8 +154,7 @@ pub(crate) fn chain_few(mode: &Mode, first: u64, bytes: &[u8], n: usize) -> [u32
     requires bytes { 1024 * n ≤ length bytes.now }
     requires first { first ≤ 2 ^ 54 }
     ensures wide { AreWide 8 result }
-    ensures lanes { (j : ℕ) → j < n
-        → lane j result ≡ chunk_chaining mode.now first bytes.now j }
+    ensures lanes { (j : ℕ) → j < n → lane j result ≡ chunk_chaining mode.now first bytes.now j }
 {
     chain_lanes(mode, first, bytes, n)
 }

@@ -230,48 +230,16 @@ fn known_lengths<const N: usize>(lists: &[[u32; N]; 8])
 
 // Lane `j` takes list `j`.
 #[inline(always)]
-fn gathered8(lists: &[[u32; 8]; 8]) -> [u32x8; 8]
-    ensures wide { AreWide 8 result }
+fn all_gathered<const N: usize>(lists: &[[u32; N]; 8]) -> [u32x8; N]
+    ensures wide { AreWide N result }
     ensures lanes { (j : ℕ) → j < 8 → lane j result ≡ slice_index_or lists.now j [] }
 {
     known_lengths(lists);
-    [
-        gathered(lists, 0),
-        gathered(lists, 1),
-        gathered(lists, 2),
-        gathered(lists, 3),
-        gathered(lists, 4),
-        gathered(lists, 5),
-        gathered(lists, 6),
-        gathered(lists, 7),
-    ]
-}
-
-// The same for lists of sixteen words.
-#[inline(always)]
-fn gathered16(lists: &[[u32; 16]; 8]) -> [u32x8; 16]
-    ensures wide { AreWide 16 result }
-    ensures lanes { (j : ℕ) → j < 8 → lane j result ≡ slice_index_or lists.now j [] }
-{
-    known_lengths(lists);
-    [
-        gathered(lists, 0),
-        gathered(lists, 1),
-        gathered(lists, 2),
-        gathered(lists, 3),
-        gathered(lists, 4),
-        gathered(lists, 5),
-        gathered(lists, 6),
-        gathered(lists, 7),
-        gathered(lists, 8),
-        gathered(lists, 9),
-        gathered(lists, 10),
-        gathered(lists, 11),
-        gathered(lists, 12),
-        gathered(lists, 13),
-        gathered(lists, 14),
-        gathered(lists, 15),
-    ]
+    let mut vectors = [u32x8::splat(0); N];
+    'words: for i in 0..N {
+        vectors[i] = gathered(lists, i);
+    }
+    vectors
 }
 
 // What lane `j` holds.
@@ -449,8 +417,8 @@ pub fn compress8(
     ensures { (j : ℕ) → j < 8 → slice_index_or result j []
         ≡ compress (slice_index_or h.now j []) (slice_index_or m.now j []) (slice_index t.now j) b d }
 {
-    let chains = gathered8(h);
-    let message = gathered16(m);
+    let chains = all_gathered(h);
+    let message = all_gathered(m);
     let (low, high) = counters(t);
     let v = states8(&chains, &message, low, high, b, d);
     let front = turned8(&front8(&v));

@@ -1,7 +1,16 @@
-use Rattle.b3_core.proofs.RowRounds.{output-rows}
+use Rattle.std.proofs.Common.{◌+◌, ◌++◌, map, get_or, bit_xor, refl}
+use Rattle.std.specs.List.{range_with_len}
+use Rattle.std.specs.Simd.Lanes.{zip2}
+use Rattle.b3_core.specs.Compression.{output}
+use Rattle.b3_core.specs.Rows.{joined}
+use Rattle.b3_core.proofs.RowRounds.{same_on_rows}
 use Rattle.b3_core.proofs.compression.output.Goals as goal
 
 pub returns : goal.returns
 returns c =
-    let v = c.args.v in
-    output-rows v.0 v.1 v.2 v.3 c.args.h.now c.requires.0 c.requires.1 c.requires.2 c.requires.3
+    let h = c.args.h.now in
+    same_on_rows (λ v. map (λ i. get_or (zip2 bit_xor v.0 v.2) i 0) (range_with_len 0 4)
+    ++ map (λ i. get_or (zip2 bit_xor v.1 v.3) i 0) (range_with_len 0 4)
+    ++ map (λ i. bit_xor (get_or v.2 i 0) (get_or h i 0)) (range_with_len 0 4)
+    ++ map (λ i. bit_xor (get_or v.3 i 0) (get_or h (i + 4) 0)) (range_with_len 0 4)) (λ v. output (joined v) h)
+    (λ a b c d. refl) c.args.v c.requires

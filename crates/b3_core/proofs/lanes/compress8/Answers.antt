@@ -24,11 +24,11 @@ returns c =
     ap (λ l. get_or l j 0) c.counters.ensures.low ∙ get_or-of_map (λ n. n % 2 ^ 32) t j 0 in
     let high : get_or c.counters.result.1 j 0 ≡ t_j / 2 ^ 32 =
     ap (λ l. get_or l j 0) c.counters.ensures.high ∙ get_or-of_map (λ n. n / 2 ^ 32) t j 0 in
-    let chains = c.gathered8-chains.ensures.lanes j lt in
-    let message = c.gathered16-message.ensures.lanes j lt in
+    let chains = c.all_gathered-chains.ensures.lanes j lt in
+    let message = c.all_gathered-message.ensures.lanes j lt in
     let state = c.states8-v.ensures.lanes j t_j lt low high in
     each j lt
     ∙ (λ i. c.turned8-front.ensures.lanes j lt i ++ c.turned8-back.ensures.lanes j lt i)
-    ∙ (λ i. c.front8.ensures.lanes j (lane j c.gathered8-chains.result) lt i ++ c.back8.ensures.lanes j lt i)
-    ∙ (λ i. output (state i) (lane j c.gathered8-chains.result))
+    ∙ (λ i. c.front8.ensures.lanes j (lane j c.all_gathered-chains.result) lt i ++ c.back8.ensures.lanes j lt i)
+    ∙ (λ i. output (state i) (lane j c.all_gathered-chains.result))
     ∙ (λ i. compress (chains i) (message i) t_j c.args.b c.args.d)
