@@ -19,18 +19,18 @@ pub(crate) fn mixed8(x: u32x8, y: u32x8, r: u32) -> u32x8
 {
     if r == 16 {
         let bytes = x.to_le_bytes() ^ y.to_le_bytes();
-        u32x8::from_le_bytes(bytes.swizzle::<32>([
+        return u32x8::from_le_bytes(bytes.swizzle::<32>([
             2, 3, 0, 1, 6, 7, 4, 5, 10, 11, 8, 9, 14, 15, 12, 13, 18, 19, 16, 17, 22, 23, 20, 21,
             26, 27, 24, 25, 30, 31, 28, 29,
-        ]))
-    } else if r == 8 {
+        ]));
+    }
+    if r == 8 {
         let bytes = x.to_le_bytes() ^ y.to_le_bytes();
-        u32x8::from_le_bytes(bytes.swizzle::<32>([
+        return u32x8::from_le_bytes(bytes.swizzle::<32>([
             1, 2, 3, 0, 5, 6, 7, 4, 9, 10, 11, 8, 13, 14, 15, 12, 17, 18, 19, 16, 21, 22, 23, 20,
             25, 26, 27, 24, 29, 30, 31, 28,
-        ]))
-    } else {
-        let words = x ^ y;
-        (words >> u32x8::splat(r)) | (words << u32x8::splat(32 - r))
+        ]));
     }
+    let words = x ^ y;
+    (words >> u32x8::splat(r)) | (words << u32x8::splat(32 - r))
 }

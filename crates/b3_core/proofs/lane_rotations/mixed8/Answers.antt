@@ -12,7 +12,7 @@ pub returns-then-r-eq8 : goal.returns-then-r-eq8
 returns-then-r-eq8 c =
     mixed-bytes c.args.x c.args.y 1 c.args.r c.if-r-eq8.true (inl refl) c.requires.x c.requires.y c.fits-x.1 c.fits-y.1
 
-pub returns-else-r-eq8 : goal.returns-else-r-eq8
-returns-else-r-eq8 c =
+pub returns : goal.returns
+returns c =
     rotated-words (zip2 bit_xor c.args.x c.args.y) 8 c.args.r c.requires.some c.requires.below
     (length-zip2 bit_xor c.args.x c.args.y (c.requires.x ∙ sym c.requires.y) ∙ c.requires.x)

@@ -7,7 +7,12 @@ pub mixed8-requires : goal.mixed8-requires
 mixed8-requires c =
     let a = c.args in
     let wide = wide-added_three a.v.now a.a a.b a.x c.requires.wide c.requires.a c.requires.b c.requires.x in
-    (c.requires.some.0, c.requires.below.0, wide.1 a.d c.requires.d, wide.1 a.a c.requires.a)
+    record {
+      some = c.requires.some.0;
+      below = c.requires.below.0;
+      x = wide.1 a.d c.requires.d;
+      y = wide.1 a.a c.requires.a;
+    }
 
 pub mixed8-requires-2 : goal.mixed8-requires-2
 mixed8-requires-2 c =
@@ -18,10 +23,16 @@ mixed8-requires-2 c =
     let y_long = length-turned v1 a.d a.a a.r y w1 c.requires.d c.requires.a c.mixed8.ensures in
     let w2 = wide-set v1 16 a.d y w1 y_long in
     let wide = wide-added_two (set v1 a.d y) a.c a.d w2 c.requires.c c.requires.d in
-    (c.requires.some.1, c.requires.below.1, wide.1 a.b c.requires.b, wide.1 a.c c.requires.c)
+    record {
+      some = c.requires.some.1;
+      below = c.requires.below.1;
+      x = wide.1 a.b c.requires.b;
+      y = wide.1 a.c c.requires.c;
+    }
 
 pub returns : goal.returns
 returns c =
     let a = c.args in
-    half_g-lanes a.v.now a.a a.b a.c a.d a.r a.s a.x c.mixed8.result c.mixed8-2.result c.requires.a c.requires.b
-    c.requires.c c.requires.d c.requires.wide c.requires.x c.mixed8.ensures c.mixed8-2.ensures
+    let half = half_g-lanes a.v.now a.a a.b a.c a.d a.r a.s a.x c.mixed8.result c.mixed8-2.result c.requires.a
+    c.requires.b c.requires.c c.requires.d c.requires.wide c.requires.x c.mixed8.ensures c.mixed8-2.ensures in
+    record { wide = half.0; lanes = half.1 }
