@@ -51,8 +51,12 @@ pub same_on_rows : (f g : List ℕ × List ℕ × List ℕ × List ℕ → List 
     → ((a b c d : ℕ → ℕ) → f (row a, row b, row c, row d) ≡ g (row a, row b, row c, row d))
     → (v : List ℕ × List ℕ × List ℕ × List ℕ) → AreRows v → f v ≡ g v
 same_on_rows f g each v rows =
-    let words : v ≡ (row (λ i. get_or v.0 i 0), row (λ i. get_or v.1 i 0), row (λ i. get_or v.2 i 0),
-    row (λ i. get_or v.3 i 0)) =
+    let words : v ≡ (
+      row (λ i. get_or v.0 i 0),
+      row (λ i. get_or v.1 i 0),
+      row (λ i. get_or v.2 i 0),
+      row (λ i. get_or v.3 i 0),
+    ) =
     λ i. (elements v.0 4 rows.0 i, elements v.1 4 rows.1 i, elements v.2 4 rows.2 i, elements v.3 4 rows.3 i) in
     ap f words
     ∙ each (λ i. get_or v.0 i 0) (λ i. get_or v.1 i 0) (λ i. get_or v.2 i 0) (λ i. get_or v.3 i 0)

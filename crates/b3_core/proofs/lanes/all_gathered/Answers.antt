@@ -1,4 +1,4 @@
-use Rattle.std.proofs.Common.{ℕ, [], length, get_or, map, ap, ◌∙◌, sym, arith}
+use Rattle.std.proofs.Common.{ℕ, [], length, get_or, ap, ◌∙◌, sym, arith}
 use Rattle.std.proofs.Math.ListN.{get_or-map as get_or-of_map}
 use Rattle.std.proofs.lemmas.List.{length-map}
 use Rattle.b3_core.proofs.Lists.{elements, map-below}
