@@ -10,7 +10,7 @@ use Rattle.b3_core.specs.Words.{add32}
 use Rattle.b3_core.specs.Compression.{half_g, round}
 use Rattle.b3_core.specs.Rows.{AreRows, diagonalized, half_columns, joined, message_of, undiagonalized}
 use Rattle.b3_core.proofs.Lists.{elements}
-use Rattle.b3_core.proofs.Rounds.{columns_together, diagonals_together, round-together}
+use Rattle.b3_core.proofs.Rounds.{diagonals_together, length-half_g, round-together}
 
 -- sixteen words
 pub length-joined : (v : List ℕ × List ℕ × List ℕ × List ℕ) → AreRows v → length (joined v) ≡ 16
@@ -51,16 +51,9 @@ pub same_on_rows : (f g : List ℕ × List ℕ × List ℕ × List ℕ → List 
     → ((a b c d : ℕ → ℕ) → f (row a, row b, row c, row d) ≡ g (row a, row b, row c, row d))
     → (v : List ℕ × List ℕ × List ℕ × List ℕ) → AreRows v → f v ≡ g v
 same_on_rows f g each v rows =
-    let words : v ≡ (
-      row (λ i. get_or v.0 i 0),
-      row (λ i. get_or v.1 i 0),
-      row (λ i. get_or v.2 i 0),
-      row (λ i. get_or v.3 i 0),
-    ) =
-    λ i. (elements v.0 4 rows.0 i, elements v.1 4 rows.1 i, elements v.2 4 rows.2 i, elements v.3 4 rows.3 i) in
-    ap f words
+    (λ i. f (elements v.0 4 rows.0 i, elements v.1 4 rows.1 i, elements v.2 4 rows.2 i, elements v.3 4 rows.3 i))
     ∙ each (λ i. get_or v.0 i 0) (λ i. get_or v.1 i 0) (λ i. get_or v.2 i 0) (λ i. get_or v.3 i 0)
-    ∙ sym (ap g words)
+    ∙ sym (λ i. g (elements v.0 4 rows.0 i, elements v.1 4 rows.1 i, elements v.2 4 rows.2 i, elements v.3 4 rows.3 i))
 
 -- all four rows after a half of G
 abbrev half_rows : List ℕ × List ℕ × List ℕ × List ℕ → List ℕ → ℕ → ℕ → List ℕ
@@ -102,38 +95,32 @@ undiagonalized-diagonals : (at x : ℕ → ℕ)
 unfolding half_g
 undiagonalized-diagonals at x = refl
 
--- a whole round, of which the columns give sixteen words
-round-words : (v m : List ℕ) → length v ≡ 16
-    → length (columns_together v (λ i. get_or m i 0)) ≡ 16
-    → undiagonalized (half_columns (half_columns (diagonalized (columns_together v (λ i. get_or m i 0)))
-    (picked m (14 ∷ 8 ∷ 10 ∷ 12 ∷ [])) 16 12) (picked m (15 ∷ 9 ∷ 11 ∷ 13 ∷ [])) 8 7)
-    ≡ round v m
-round-words v m count middle =
+length-half_columns : (v x : List ℕ) (r s : ℕ) → length (half_columns v x r s) ≡ length v
+length-half_columns v x r s =
+    length-half_g _ 3 7 11 15 _ r s ∙ length-half_g _ 2 6 10 14 _ r s ∙ length-half_g _ 1 5 9 13 _ r s
+    ∙ length-half_g v 0 4 8 12 _ r s
+
+-- a whole round, with the message as rows
+abbrev round_rows : List ℕ → List ℕ × List ℕ × List ℕ × List ℕ → List ℕ
+round_rows v m =
+    let v = diagonalized (half_columns (half_columns v m.0 16 12) m.1 8 7) in
+    undiagonalized (half_columns (half_columns v m.2 16 12) m.3 8 7)
+
+round_rows-words : (v : List ℕ) (a b c d : ℕ → ℕ) → length v ≡ 16
+    → round_rows v (row a, row b, row c, row d) ≡ round v (message_of (row a ++ row b ++ row c ++ row d))
+round_rows-words v a b c d count =
+    let m : List ℕ = message_of (row a ++ row b ++ row c ++ row d) in
     let x : ℕ → ℕ = λ i. get_or m i 0 in
-    let u : List ℕ = columns_together v x in
-    let u_is = elements u 16 middle in
-    (λ i. undiagonalized (half_columns (half_columns (diagonalized (u_is i))
-    (picked m (14 ∷ 8 ∷ 10 ∷ 12 ∷ [])) 16 12) (picked m (15 ∷ 9 ∷ 11 ∷ 13 ∷ [])) 8 7))
+    let half : List ℕ = half_columns v (row a) 16 12 in
+    let u : List ℕ = half_columns half (row b) 8 7 in
+    let u_is = elements u 16 (length-half_columns half (row b) 8 7 ∙ length-half_columns v (row a) 16 12 ∙ count) in
+    (λ i. undiagonalized (half_columns (half_columns (diagonalized (u_is i)) (row c) 16 12) (row d) 8 7))
     ∙ undiagonalized-diagonals (λ i. get_or u i 0) x
     ∙ ap (λ t. diagonals_together t x) (sym u_is)
     ∙ round-together v m count
 
--- and with the message as rows
-abbrev round_rows : List ℕ → List ℕ → List ℕ → List ℕ → List ℕ → List ℕ
-round_rows v a b c d =
-    undiagonalized (half_columns (half_columns (diagonalized (half_columns (half_columns v a 16 12) b 8 7)) c 16 12)
-    d 8 7)
-
 pub round-rows : (v : List ℕ) (m : List ℕ × List ℕ × List ℕ × List ℕ) → length v ≡ 16 → AreRows m
-    → length (half_columns (half_columns v m.0 16 12) m.1 8 7) ≡ 16
-    → round_rows v m.0 m.1 m.2 m.3 ≡ round v (message_of (joined m))
-round-rows v m count rows middle =
-    let first = elements m.0 4 rows.0 in
-    let second = elements m.1 4 rows.1 in
-    let third = elements m.2 4 rows.2 in
-    let last = elements m.3 4 rows.3 in
-    (λ i. round_rows v (first i) (second i) (third i) (last i))
-    ∙ round-words v (message_of (row (λ i. get_or m.0 i 0) ++ row (λ i. get_or m.1 i 0) ++ row (λ i. get_or m.2 i 0)
-    ++ row (λ i. get_or m.3 i 0))) count
-    (sym (ap length ((λ i. half_columns (half_columns v (first i) 16 12) (second i) 8 7))) ∙ middle)
-    ∙ sym (λ i. round v (message_of (first i ++ second i ++ third i ++ last i)))
+    → round_rows v m ≡ round v (message_of (joined m))
+round-rows v m count rows =
+    same_on_rows (round_rows v) (λ m. round v (message_of (joined m)))
+    (λ a b c d. round_rows-words v a b c d count) m rows

@@ -97,17 +97,27 @@ fn rounds8(v: [u32x8; 16], m: &[u32x8; 16]) -> [u32x8; 16]
     v
 }
 
-// The state before the first round, of the chaining values `h`, and of the counters' low and high words.
+// The state after seven rounds of eight compressions, of the chaining values `h`, the messages `m`, the low
+// and high words of the counters, one block length `b` and one set of flags `d`, for what needs all sixteen
+// output words.
 #[inline(always)]
-fn start8(h: &[u32x8; 8], low: u32x8, high: u32x8, b: u32, d: u32) -> [u32x8; 16]
-    requires wide { AreWide 8 h.now }
+pub(crate) fn states8(
+    h: &[u32x8; 8],
+    m: &[u32x8; 16],
+    low: u32x8,
+    high: u32x8,
+    b: u32,
+    d: u32,
+) -> [u32x8; 16]
+    requires h { AreWide 8 h.now }
+    requires message { AreWide 16 m.now }
     requires low { length low ≡ 8 }
     requires high { length high ≡ 8 }
     ensures wide { AreWide 16 result }
     ensures lanes { (j t : ℕ) → j < 8 → slice_index low j ≡ t % 2 ^ 32 → slice_index high j ≡ t / 2 ^ 32
-        → lane j result ≡ start (lane j h.now) t b d }
+        → lane j result ≡ rounds 7 (start (lane j h.now) t b d) (lane j m.now) }
 {
-    [
+    let start = [
         h[0],
         h[1],
         h[2],
@@ -124,7 +134,8 @@ fn start8(h: &[u32x8; 8], low: u32x8, high: u32x8, b: u32, d: u32) -> [u32x8; 16
         high,
         u32x8::splat(b),
         u32x8::splat(d),
-    ]
+    ];
+    rounds8(start, m)
 }
 
 // The first eight output words, which do not read the chaining values.
@@ -185,9 +196,7 @@ pub(crate) fn chainings8(
     ensures lanes { (j t : ℕ) → j < 8 → slice_index low j ≡ t % 2 ^ 32 → slice_index high j ≡ t / 2 ^ 32
         → lane j result ≡ take 8 (compress (lane j h.now) (lane j m.now) t b d) }
 {
-    let v = start8(h, low, high, b, d);
-    let v = rounds8(v, m);
-    front8(&v)
+    front8(&states8(h, m, low, high, b, d))
 }
 
 // Word `i` of each of eight lists.
@@ -378,30 +387,6 @@ pub(crate) fn counters_from(first: u64) -> (u32x8, u32x8)
         first + 6,
         first + 7,
     ])
-}
-
-// The state after seven rounds of eight compressions, of the chaining values `h`, the messages `m`, the low
-// and high words of the counters, one block length `b` and one set of flags `d`, for what needs all sixteen
-// output words.
-#[inline(always)]
-pub(crate) fn states8(
-    h: &[u32x8; 8],
-    m: &[u32x8; 16],
-    low: u32x8,
-    high: u32x8,
-    b: u32,
-    d: u32,
-) -> [u32x8; 16]
-    requires h { AreWide 8 h.now }
-    requires message { AreWide 16 m.now }
-    requires low { length low ≡ 8 }
-    requires high { length high ≡ 8 }
-    ensures wide { AreWide 16 result }
-    ensures lanes { (j t : ℕ) → j < 8 → slice_index low j ≡ t % 2 ^ 32 → slice_index high j ≡ t / 2 ^ 32
-        → lane j result ≡ rounds 7 (start (lane j h.now) t b d) (lane j m.now) }
-{
-    let v = start8(h, low, high, b, d);
-    rounds8(v, m)
 }
 
 /// Eight compressions at once (BLAKE3 (2020), 2.2): list `j` of the result has the output words for the
