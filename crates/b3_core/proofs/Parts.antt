@@ -2,7 +2,7 @@
 use Rattle.std.proofs.Common.{◌≡◌, ℕ, suc, ◌+◌, ◌-◌, ◌*◌, ◌^◌, ◌<◌, ◌≤◌, List, length, take, drop, sym, ap, ◌∙◌}
 use Rattle.std.proofs.Common.{inl, inr, arith}
 use Rattle.std.proofs.Math.Nat.{pow-suc}
-use Rattle.std.proofs.lemmas.Nat.{mul-le, pow_pos}
+use Rattle.std.proofs.lemmas.Nat.{column_fits, pow_pos}
 use Rattle.std.proofs.lemmas.List.{length-take, length-take-le, length-drop, take_all, drop-drop, drop-take, take-take}
 use Rattle.std.proofs.lemmas.Bool.{cases_lt}
 use Rattle.b3_core.specs.Nodes.{chaining}
@@ -68,12 +68,6 @@ part-joined level j mode first xs fits =
 abbrev pub part_chaining : ℕ → Mode → ℕ → List ℕ → ℕ → List ℕ
 part_chaining level mode first xs j = chaining (top mode (first + 2 ^ level * j) (part (2 ^ level) j xs))
 
--- part i of k parts of w ends where all of them end, or before
-scaled : (w i k : ℕ) → i < k → w * i + w ≤ w * k
-scaled w i k lt =
-    let more : w * (i + 1) ≤ w * k = mul-le w (i + 1) w k (omega arith) (omega arith) in
-    omega (arith, more)
-
 -- one level up: the parents of parts two by two
 pub parts-up : (level n : ℕ) (mode : Mode) (first : ℕ) (xs : List ℕ) (e : ℕ → List ℕ)
     → 1024 * 2 ^ suc level * n ≤ length xs
@@ -83,8 +77,8 @@ pub parts-up : (level n : ℕ) (mode : Mode) (first : ℕ) (xs : List ℕ) (e : 
 parts-up level n mode first xs e fits each j lt =
     let left_is = each (2 * j) (omega arith) in
     let right_is = each (2 * j + 1) (omega arith) in
-    let within : 1024 * 2 ^ suc level * j + 1024 * 2 ^ suc level ≤ length xs =
-    omega (arith, scaled (1024 * 2 ^ suc level) j n lt) in
+    let w : ℕ = 1024 * 2 ^ suc level in
+    let within : w * j + w ≤ length xs = omega (arith, column_fits w j w n lt (omega arith)) in
     (λ i. chaining (parent_node mode (left_is i) (right_is i)))
     ∙ ap chaining (sym (part-joined level j mode first xs within))
 
@@ -93,7 +87,8 @@ pub halves-front : (level : ℕ) (mode : Mode) (first n : ℕ) (xs : List ℕ) (
     → part_chaining level mode first (take n xs) j ≡ part_chaining level mode first xs j
 halves-front level mode first n xs j lt n_is =
     let w : ℕ = 2 ^ level in
-    let within : 1024 * w * j + 1024 * w ≤ n = omega (arith, n_is, scaled (1024 * w) j 8 lt) in
+    let within : 1024 * w * j + 1024 * w ≤ n =
+    omega (arith, n_is, column_fits (1024 * w) j (1024 * w) 8 lt (omega arith)) in
     ap (λ p. chaining (top mode (first + w * j) p)) (part-front w j n xs within)
 
 pub halves-back : (level : ℕ) (mode : Mode) (first next n : ℕ) (xs : List ℕ) (j : ℕ) → n ≡ 8192 * 2 ^ level
@@ -152,8 +147,8 @@ pub subtrees-joined : (level : ℕ) (mode : Mode) (first next n : ℕ) (xs : Lis
     → ((j : ℕ) → j < 4 → up (j + 4) ≡ chaining (parent_node mode (right (2 * j)) (right (2 * j + 1))))
     → (j : ℕ) → j < 8 → up j ≡ part_chaining (suc level) mode first xs j
 subtrees-joined level mode first next n xs left right up long n_is next_is left_is right_is front back j lt =
-    let within : 1024 * 2 ^ suc level * j + 1024 * 2 ^ suc level ≤ length xs =
-    omega (arith, long, pow-suc 2 level, scaled (1024 * 2 ^ suc level) j 8 lt) in
+    let w : ℕ = 1024 * 2 ^ suc level in
+    let within : w * j + w ≤ length xs = omega (arith, long, pow-suc 2 level, column_fits w j w 8 lt (omega arith)) in
     let parent_is = ap chaining (sym (part-joined level j mode first xs within)) in
     elim (cases_lt j 4) [
       | inl low ↦

@@ -1,7 +1,7 @@
 -- Powers of two and their multiples.
 use Rattle.std.proofs.Common.{inl, inr, ◌≡◌, ℕ, zero, suc, ◌+◌, ◌-◌, ◌*◌, ◌/◌, ◌^◌, ◌<◌, ◌≤◌, arith, sym, ap, ◌∙◌, shr-shr}
 use Rattle.std.proofs.lemmas.Bool.{cases_lt}
-use Rattle.std.proofs.lemmas.Nat.{mul-le, pow-add, pow_pos}
+use Rattle.std.proofs.lemmas.Nat.{pow-add, pow_pos, row_fits}
 use Rattle.std.proofs.lemmas.Nat.Bits.{bit_at-trailing_zeros}
 use Rattle.std.proofs.Math.Nat.{eq_of_mul-eq-mul_right, lt_of_mul-lt-mul_right, pow-le-pow_right, pow-suc}
 use Rattle.std.specs.Int.{bit_at, trailing_zeros, w64}
@@ -30,9 +30,7 @@ next_power (suc (suc n)) h =
 
 -- of two multiples of p the lower ends at the higher
 pub below_multiple : (q m p : ℕ) → q * p < m * p → q * p + p ≤ m * p
-below_multiple q m p lt =
-    let fewer : q < m = lt_of_mul-lt-mul_right p lt in
-    omega (arith, mul-le (q + 1) p m p (omega arith) (omega arith))
+below_multiple q m p lt = row_fits q p m p (lt_of_mul-lt-mul_right p lt) (omega arith)
 
 -- a multiple of a power of two is one of each lower power
 pub lower_multiple : (q k e : ℕ) → q * 2 ^ (k + e) ≡ (q * 2 ^ e) * 2 ^ k

@@ -14,11 +14,7 @@ use Rattle.b3_core.proofs.Rounds.{diagonals_together, length-half_g, round-toget
 
 -- sixteen words
 pub length-joined : (v : List ℕ × List ℕ × List ℕ × List ℕ) → AreRows v → length (joined v) ≡ 16
-length-joined v rows =
-    let all : length (joined v) ≡ length (v.0 ++ v.1 ++ v.2) + length v.3 = length-append (v.0 ++ v.1 ++ v.2) v.3 in
-    let front : length (v.0 ++ v.1 ++ v.2) ≡ length (v.0 ++ v.1) + length v.2 = length-append (v.0 ++ v.1) v.2 in
-    let first : length (v.0 ++ v.1) ≡ length v.0 + length v.1 = length-append v.0 v.1 in
-    omega (arith, all, front, first, rows.0, rows.1, rows.2, rows.3)
+length-joined v rows = simp length-append (omega (arith, rows.0, rows.1, rows.2, rows.3))
 
 -- the rows that the statements of a half of G give
 abbrev pub added_rows : List ℕ → List ℕ → List ℕ → List ℕ
@@ -30,11 +26,6 @@ rotated_row a b r = map (λ n. rotate_right w32 n r) (zip2 bit_xor a b)
 -- they have four words each
 pub length-zipped_row : (f : ℕ → ℕ → ℕ) (a b : List ℕ) → length a ≡ 4 → length b ≡ 4 → length (zip2 f a b) ≡ 4
 length-zipped_row f a b a_long b_long = length-zip2 f a b (a_long ∙ sym b_long) ∙ a_long
-
-pub length-added_rows : (a b x : List ℕ) → length a ≡ 4 → length b ≡ 4 → length x ≡ 4
-    → length (added_rows a b x) ≡ 4
-length-added_rows a b x a_long b_long x_long =
-    length-zipped_row add32 (zip2 add32 a b) x (length-zipped_row add32 a b a_long b_long) x_long
 
 pub length-rotated_row : (a b y : List ℕ) (r : ℕ) → length a ≡ 4 → length b ≡ 4 → y ≡ rotated_row a b r
     → length y ≡ 4

@@ -176,16 +176,12 @@ one_left n a l a2 l2 b r some x y =
     let lengths : l ≡ l2 = k.power ∙ ap (λ (i : ℕ). 2 ^ i) same ∙ sym m.power in
     (omega (arith, k.next, m.next), lengths)
 
-no_end : (n a c l : ℕ) → a + c < n → (c ≡ l) ⊎ (a + c ≡ n) → c ≡ l
-no_end n a c l room (inl p) = p
-no_end n a c l room (inr e) = absurd (omega arith)
-
 -- no span is a left child and a right child
 pub not_both : (n a c b d b2 d2 : ℕ) → 1 ≤ n → AreChildren n a c b d → AreChildren n b2 d2 a c → ⊥
 not_both n a c b d b2 d2 some x y =
     let k = Kids-from_AreChildren n a c b d some x in
     let m = Kids-from_AreChildren n b2 d2 a c some y in
-    let same : c ≡ d2 = no_end n a c d2 (omega (arith, k.next, k.ends, k.some)) m.full in
+    let same : c ≡ d2 = elim m.full [ inl p ↦ p | inr e ↦ absurd (omega (arith, k.next, k.ends, k.some)) ] in
     let odd : a ≡ (2 * m.q + 1) * c = m.back ∙ ap (λ (p : ℕ). (2 * m.q + 1) * p) (sym same) in
     let halves = eq_of_mul-eq-mul_right c k.positive (2 * m.q + 1) (2 * k.q) (sym odd ∙ k.front) in
     absurd (omega arith)

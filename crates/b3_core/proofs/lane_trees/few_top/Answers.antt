@@ -8,23 +8,15 @@ use Rattle.b3_core.proofs.lane_trees.few_top.Goals as goal
 
 pub joined-left_chaining-requires-clause-each : goal.joined-left_chaining-requires-clause-each
 joined-left_chaining-requires-clause-each c =
-    let mode = c.args.mode.now in
-    let bytes = c.args.bytes.now in
-    let chainings : List (List ℕ) = take c.chunks-total.result c.few_chainings-chainings.result in
-    let all : AreChunkChainings mode c.args.first bytes chainings =
-    rw c.chunks-total.ensures c.few_chainings-chainings.ensures in
+    let all = rw (← c.chunks-total.ensures) at c.few_chainings-chainings.ensures in
     rw (c.split_at-2.ensures.front, c.split_at.ensures.front)
-    (each-front mode c.args.first c.left-count.result bytes chainings all)
+    (each-front c.args.mode.now c.args.first c.left-count.result c.args.bytes.now _ all)
 
 pub joined-right_chaining-requires-clause-each : goal.joined-right_chaining-requires-clause-each
 joined-right_chaining-requires-clause-each c =
-    let mode = c.args.mode.now in
-    let bytes = c.args.bytes.now in
-    let chainings : List (List ℕ) = take c.chunks-total.result c.few_chainings-chainings.result in
-    let all : AreChunkChainings mode c.args.first bytes chainings =
-    rw c.chunks-total.ensures c.few_chainings-chainings.ensures in
+    let all = rw (← c.chunks-total.ensures) at c.few_chainings-chainings.ensures in
     rw (c.split_at-2.ensures.back, c.split_at.ensures.back)
-    (each-back mode c.args.first c.left-count.result bytes chainings all)
+    (each-back c.args.mode.now c.args.first c.left-count.result c.args.bytes.now _ all)
 
 pub returns : goal.returns
 returns c =
