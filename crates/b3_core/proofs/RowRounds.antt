@@ -1,5 +1,5 @@
 -- The state as rows: a half of G on its four columns at once, and the diagonals as columns.
-use Rattle.std.proofs.Common.{◌≡◌, ℕ, ◌+◌, List, [], ◌∷◌, ◌++◌, length, map, get_or, refl, sym, ap, ◌∙◌, arith, bit_xor}
+use Rattle.std.proofs.Common.{◌≡◌, ℕ, List, [], ◌∷◌, ◌++◌, length, map, get_or, refl, sym, ap, ◌∙◌, arith, bit_xor}
 use Rattle.std.proofs.Common.{length-append, w32}
 use Rattle.std.specs.Int.{rotate_right}
 use Rattle.std.specs.List.{range_with_len}

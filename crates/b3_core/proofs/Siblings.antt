@@ -1,5 +1,6 @@
 -- The sibling of a subtree: by numbers, as the code finds it, and that it is the only one.
-use Rattle.std.proofs.Common.{inl, inr, ◌⊎◌, ◌≡◌, ℕ, suc, ◌+◌, ◌-◌, ◌*◌, ◌%◌, ◌/◌, ◌^◌, ◌<◌, ◌≤◌, min, arith, refl, subst, sym, ap, ◌∙◌}
+use Rattle.std.proofs.Common.{inl, inr, ◌⊎◌, ◌≡◌, ℕ, suc, ◌+◌, ◌-◌, ◌*◌, ◌%◌, ◌/◌, ◌^◌, ◌<◌, ◌≤◌, min, arith, refl}
+use Rattle.std.proofs.Common.{subst, sym, ap, ◌∙◌}
 use Rattle.std.proofs.lemmas.Bool.{cases_lt, cases_eq}
 use Rattle.std.proofs.lemmas.Grind.{not_there}
 use Rattle.std.proofs.lemmas.Nat.{div-add-mod', one_shl, pow_pos}
@@ -9,7 +10,8 @@ use Rattle.b3_core.specs.Tree.{IsLeft}
 use Rattle.b3_core.specs.Subtrees.{AreChildren, AreSiblings, IsSubtree}
 use Rattle.b3_core.specs.Subtrees.IsSubtree.{left_child, right_child}
 use Rattle.b3_core.specs.declared.tree.Span.{Span}
-use Rattle.b3_core.proofs.Grid.{InGrid, InGrid-from_IsSubtree, IsSubtree-from_InGrid, IsSubtree-from_tests, tests-from_IsSubtree}
+use Rattle.b3_core.proofs.Grid.{InGrid, InGrid-from_IsSubtree, IsSubtree-from_InGrid, IsSubtree-from_tests}
+use Rattle.b3_core.proofs.Grid.{tests-from_IsSubtree}
 use Rattle.b3_core.proofs.Powers.{double, exponent, lower_multiple, lowest_bit, next_power, not_above}
 
 module _ (n : ℕ) where

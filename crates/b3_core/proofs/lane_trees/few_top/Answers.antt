@@ -1,7 +1,6 @@
-use Rattle.std.proofs.Common.{ℕ, ◌+◌, List, length, take, sym, ap, ◌∙◌}
+use Rattle.std.proofs.Common.{ℕ, ◌+◌, length, sym, ap, ◌∙◌}
 use Rattle.b3_core.specs.Nodes.{chaining}
 use Rattle.b3_core.specs.Tree.{IsLeft, chunks, parent_node, top}
-use Rattle.b3_core.specs.Lanes.{AreChunkChainings}
 use Rattle.b3_core.proofs.FewChunks.{each-back, each-front}
 use Rattle.b3_core.proofs.Subtrees.{top-parent}
 use Rattle.b3_core.proofs.lane_trees.few_top.Goals as goal
