@@ -11,7 +11,7 @@ TO_RUN = (*TO_CALL, ("b3sum/src/call.rt", "run_call"), ("b3_program/src/run.rt",
 TO_SUM = (*TO_RUN, ("b3_check/src/sum.rt", "run_sum"))
 TO_CHECK = (*TO_RUN, ("b3_check/src/check.rt", "run_check"))
 TO_TEXT = (*TO_SUM, ("b3_check/src/sum.rt", "sum_names"), ("b3_check/src/engine.rt", "Engine::run"),
-           ("b3_check/src/engine.rt", "Engine::message_of"), ("b3_check/src/items.rt", "Subject::message"),
+           ("b3_check/src/engine.rt", "Engine::message_of"), ("b3_check/src/items.rt", "Request::message"),
            ("b3_check/src/message.rt", "Message::of_name"), ("b3_check/src/message.rt", "digest_text"))
 TO_PLAIN = (*TO_TEXT, ("b3_check/src/message.rt", "plain_line"), ("b3_lines/src/writing.rt", "write_line"))
 TO_TAGGED = (*TO_TEXT, ("b3_check/src/message.rt", "tagged_line"), ("b3_lines/src/tagging.rt", "write_tagged"))
@@ -27,7 +27,7 @@ HANDLES = (r"\bHostRuntime\b|\buse std::(?:fs|os|net|rt|process::[a-z])"
 OPAQUE = ("FileShelf", "OutputSink")
 
 # The traits that callers of a library implement.
-OWED = ("Gate", "Named", "Source")
+OWED = ("Gate", "InputLedger", "Source")
 
 
 @dataclass(frozen=True)

@@ -10,11 +10,11 @@ use Rattle.std.proofs.lemmas.List.Elements.{All-get_or}
 use Rattle.b3_core.specs.Subtrees.{IsSubtree}
 use Rattle.b3_core.specs.Tree.{chunks}
 use Rattle.b3_core.specs.declared.modes.Mode.{Mode}
-use Rattle.b3_core.specs.declared.tree.Span.{Span}
+use Rattle.b3_core.specs.declared.spans.Span.{Span}
 use Rattle.b3_board.specs.declared.entries.Entry.{Entry}
 use Rattle.b3_board.specs.Entries.{at, fresh, nothing, has_chunk, kept_count, open_count, open_spans, pieces, is_kept, FitsState, Lawful}
-use Rattle.b3_board.specs.Plans.{IsCutting, IsRow, grain_span, grain_spans}
-use Rattle.b3_board.specs.Spans.{Known, IsSubtreeSpan, has, part}
+use Rattle.b3_board.specs.Plans.{IsCutting, IsCuttingTo, grain_span, grain_spans}
+use Rattle.b3_board.specs.Spans.{KnownInput, IsSubtreeSpan, chunk_in, part}
 use Rattle.std.proofs.lemmas.Nat.{pow_pos, div-add-mod', mul-le}
 use Rattle.std.proofs.Math.Nat.{lt-div-mul-add, pow-le-pow_right}
 use Rattle.std.specs.Int.{IsPowerOfTwo, div_ceil}
@@ -55,24 +55,24 @@ module _ (n : ℕ) (spans : List Span) (cutting : IsCutting n spans) where
       let e = sums_rise (i + 1) j (omega arith) in
       omega arith
 
-  once_up_to : (k i : ℕ) → i ≤ length spans → sum_by (λ s. has k s.first s.count) (take i spans) ≡ has k 0 (up_to i)
+  once_up_to : (k i : ℕ) → i ≤ length spans → sum_by (λ s. chunk_in k s.first s.count) (take i spans) ≡ chunk_in k 0 (up_to i)
   once_up_to k zero le = omega arith
   once_up_to k (suc i) le =
       let before = once_up_to k i (omega arith) in
-      let more = sum_by_more (λ s. has k s.first s.count) spans i no_span (omega arith) in
+      let more = sum_by_more (λ s. chunk_in k s.first s.count) spans i no_span (omega arith) in
       let width_more = sum_by_more width spans i no_span (omega arith) in
       let begins = cutting.begins i no_span (omega arith) in
       let sum = has_sum k 0 (up_to i) (get_or spans i no_span).first (get_or spans i no_span).count (begins
       ∙ omega arith) in
       let next : suc i ≡ i + 1 = omega arith in
-      rw next (more ∙ ap (λ (x : ℕ). x + has k (get_or spans i no_span).first (get_or spans i no_span).count) before
-      ∙ sym sum ∙ ap (has k 0) (sym width_more))
+      rw next (more ∙ ap (λ (x : ℕ). x + chunk_in k (get_or spans i no_span).first (get_or spans i no_span).count) before
+      ∙ sym sum ∙ ap (chunk_in k 0) (sym width_more))
 
   pub once_all : (k : ℕ) → k < n → sum_by (has_chunk k) (map fresh spans) ≡ 1
   once_all k lt =
       let all = once_up_to k (length spans) (omega arith) in
       let whole : take (length spans) spans ≡ spans = take_all (length spans) spans (omega arith) in
-      let e : sum_by (λ s. has k s.first s.count) spans ≡ has k 0 (sum_by width spans) = rw whole at all in
+      let e : sum_by (λ s. chunk_in k s.first s.count) spans ≡ chunk_in k 0 (sum_by width spans) = rw whole at all in
       let ends = cutting.ends in
       sum_map (has_chunk k) spans ∙ e ∙ omega arith
 
@@ -91,7 +91,7 @@ module _ (n : ℕ) (spans : List Span) (cutting : IsCutting n spans) where
         | inr x ↦ ap (λ (e : Entry). is_kept e.state) x
       ]
 
-pub lawful_new : (input : Known) (mode : Mode) (first : ℕ) (spans : List Span)
+pub lawful_new : (input : KnownInput) (mode : Mode) (first : ℕ) (spans : List Span)
     → IsCutting (chunks input.len) spans → Lawful input mode first (map fresh spans)
 lawful_new input mode first spans cutting =
     let n = chunks input.len in
@@ -156,8 +156,8 @@ pub kept_none : (spans : List Span) → sum_by kept_count (map fresh spans) ≡ 
 kept_none spans = sum_map kept_count spans ∙ sum_zero spans
 
 -- one more span at the end of a row
-pub row_push : (n m c : ℕ) (spans : List Span) → IsRow n m spans → 0 < c → ∥ IsSubtree n m c ∥₁
-    → IsRow n (m + c) (spans ++ record { first = m; count = c } ∷ [])
+pub row_push : (n m c : ℕ) (spans : List Span) → IsCuttingTo n m spans → 0 < c → ∥ IsSubtree n m c ∥₁
+    → IsCuttingTo n (m + c) (spans ++ record { first = m; count = c } ∷ [])
 row_push n m c spans row some up =
     let s : Span = record { first = m; count = c } in
     let ends = row.ends in
@@ -187,7 +187,7 @@ row_push n m c spans row some up =
       ends = omega (arith, sum_by_push (λ (x : Span). x.count) spans s);
     }
 
-pub row_none : (n : ℕ) → IsRow n 0 []
+pub row_none : (n : ℕ) → IsCuttingTo n 0 []
 row_none n = record {
   begins = λ i d short. absurd (omega arith);
   some = λ i d short. absurd (omega arith);
@@ -235,8 +235,8 @@ grain_subtree n k q some inside =
           }
     ]
 
-pub grain_push : (n g i : ℕ) (spans : List Span) → 1 ≤ n → IsPowerOfTwo g → i * g < n → IsRow n (i * g) spans
-    → IsRow n (i * g + min g (n - i * g)) (spans ++ record { first = i * g; count = min g (n - i * g) } ∷ [])
+pub grain_push : (n g i : ℕ) (spans : List Span) → 1 ≤ n → IsPowerOfTwo g → i * g < n → IsCuttingTo n (i * g) spans
+    → IsCuttingTo n (i * g + min g (n - i * g)) (spans ++ record { first = i * g; count = min g (n - i * g) } ∷ [])
 grain_push n g i spans some (k, is) inside row =
     let here : i * 2 ^ k < n = rw (sym is) inside in
     let up : IsSubtree n (i * g) (min g (n - i * g)) = rw is (grain_subtree n k i some here) in
@@ -255,19 +255,19 @@ below_ceil n g i some lt =
     ]
 
 pub grain_next : (n g i : ℕ) (spans ys : List Span) → 1 ≤ n → IsPowerOfTwo g → 0 < g → i < div_ceil n g
-    → IsRow n (min n (i * g)) spans
-    → ys ≡ spans ++ record { first = i * g; count = min g (n - i * g) } ∷ [] → IsRow n (min n ((i + 1) * g)) ys
+    → IsCuttingTo n (min n (i * g)) spans
+    → ys ≡ spans ++ record { first = i * g; count = min g (n - i * g) } ∷ [] → IsCuttingTo n (min n ((i + 1) * g)) ys
 grain_next n g i spans ys some power more lt row is =
     let inside = below_ceil n g i more lt in
     let here : min n (i * g) ≡ i * g = omega arith in
     let there : i * g + min g (n - i * g) ≡ min n ((i + 1) * g) = omega arith in
-    let row2 : IsRow n (i * g) spans = subst (λ (m : ℕ). IsRow n m spans) here row in
+    let row2 : IsCuttingTo n (i * g) spans = subst (λ (m : ℕ). IsCuttingTo n m spans) here row in
     let pushed = grain_push n g i spans some power inside row2 in
-    subst (λ (xs : List Span). IsRow n (min n ((i + 1) * g)) xs) (sym is)
-    (subst (λ (m : ℕ). IsRow n m (spans ++ record { first = i * g; count = min g (n - i * g) } ∷ [])) there pushed)
+    subst (λ (xs : List Span). IsCuttingTo n (min n ((i + 1) * g)) xs) (sym is)
+    (subst (λ (m : ℕ). IsCuttingTo n m (spans ++ record { first = i * g; count = min g (n - i * g) } ∷ [])) there pushed)
 
-pub grain_done : (n g i : ℕ) (spans : List Span) → 0 < g → i ≡ div_ceil n g → IsRow n (min n (i * g)) spans
-    → IsRow n n spans
+pub grain_done : (n g i : ℕ) (spans : List Span) → 0 < g → i ≡ div_ceil n g → IsCuttingTo n (min n (i * g)) spans
+    → IsCuttingTo n n spans
 grain_done n g i spans more is row =
     let product : i * g ≡ (n / g + min 1 (n % g)) * g = ap (λ (x : ℕ). x * g) is in
     let all : min n (i * g) ≡ n = elim (cases_lt 0 (n % g)) [
@@ -284,17 +284,17 @@ grain_done n g i spans more is row =
         div-add-mod' n g,
       )
     ] in
-    subst (λ (m : ℕ). IsRow n m spans) all row
+    subst (λ (m : ℕ). IsCuttingTo n m spans) all row
 
 pub power_some : (g : ℕ) → IsPowerOfTwo g → 0 < g
 power_some g (k, is) = omega (arith, is, pow_pos k)
 
 -- the spans of a grain are a cutting
 grain_row : (n g : ℕ) → 1 ≤ n → IsPowerOfTwo g → (i : ℕ) → i ≤ div_ceil n g
-    → IsRow n (min n (i * g)) (map (grain_span n g) (range_with_len 0 i))
+    → IsCuttingTo n (min n (i * g)) (map (grain_span n g) (range_with_len 0 i))
 grain_row n g some power zero le =
     let none : 0 ≡ min n (0 * g) = omega arith in
-    subst (λ (m : ℕ). IsRow n m []) none (row_none n)
+    subst (λ (m : ℕ). IsCuttingTo n m []) none (row_none n)
 grain_row n g some power (suc i) le =
     let before = grain_row n g some power i (omega arith) in
     let more : i + 1 ≡ suc i = omega arith in
@@ -302,16 +302,16 @@ grain_row n g some power (suc i) le =
     let spans = map (grain_span n g) (range_with_len 0 i) in
     let longer = map (grain_span n g) (range_with_len 0 (i + 1)) in
     let next = grain_next n g i spans longer some power (power_some g power) (omega arith) before is in
-    subst (λ (j : ℕ). IsRow n (min n (j * g)) (map (grain_span n g) (range_with_len 0 j))) more next
+    subst (λ (j : ℕ). IsCuttingTo n (min n (j * g)) (map (grain_span n g) (range_with_len 0 j))) more next
 
 pub grain_cutting : (n g : ℕ) → 1 ≤ n → IsPowerOfTwo g → IsCutting n (grain_spans n g)
 grain_cutting n g some power =
     grain_done n g (div_ceil n g) _ (power_some g power) refl (grain_row n g some power (div_ceil n g) (omega arith))
 
-pub row_more : (n m i : ℕ) (spans : List Span) → IsRow n m (take i spans) → i < length spans
+pub row_more : (n m i : ℕ) (spans : List Span) → IsCuttingTo n m (take i spans) → i < length spans
     → (get_or spans i no_span).first ≡ m → 0 < (get_or spans i no_span).count
     → IsSubtree n (get_or spans i no_span).first (get_or spans i no_span).count
-    → IsRow n (m + (get_or spans i no_span).count) (take (i + 1) spans)
+    → IsCuttingTo n (m + (get_or spans i no_span).count) (take (i + 1) spans)
 row_more n m i spans row short first_is some up =
     let s = get_or spans i no_span in
     let c = (get_or spans i no_span).count in
@@ -321,9 +321,9 @@ row_more n m i spans row short first_is some up =
     let pushed = row_push n m c (take i spans) row some ∣ up2 ∣₁ in
     let is : take i spans ++ record { first = m; count = c } ∷ [] ≡ take (i + 1) spans =
     ap (λ (x : Span). take i spans ++ x ∷ []) same ∙ sym (take_more spans i no_span short) in
-    subst (λ (xs : List Span). IsRow n (m + c) xs) is pushed
+    subst (λ (xs : List Span). IsCuttingTo n (m + c) xs) is pushed
 
-pub row_next : (n m i : ℕ) (spans : List Span) → 1 ≤ n → IsCutting n spans → IsRow n m (take i spans) → i < length spans
+pub row_next : (n m i : ℕ) (spans : List Span) → 1 ≤ n → IsCutting n spans → IsCuttingTo n m (take i spans) → i < length spans
     → ((get_or spans i no_span).first ≡ m) × (0 < (get_or spans i no_span).count)
     × IsSubtree n (get_or spans i no_span).first (get_or spans i no_span).count
 row_next n m i spans some cutting row short = (

@@ -1,18 +1,18 @@
--- A deposit, and what else the calls of a board say, on the picture.
+-- A deposit, and what else the calls of a board say, on its state.
 use Rattle.std.proofs.Common.{inl, inr, ◌⊎◌, ◌≡◌, ℕ, suc, ◌+◌, ◌<◌, List, [], ◌∷◌, length, map, set, Option, Some, None, arith, refl, sym, subst, ap, ◌∙◌}
 use Rattle.std.proofs.lemmas.Bool.{cases_lt}
 use Rattle.std.proofs.lemmas.List.{get_or_past}
 use Rattle.std.specs.List.{All, Contains, cons_option, filter_map, slice_get, sum_by}
 use Rattle.std.specs.Option.{IfNone, IfSome}
 use Rattle.b3_core.specs.declared.modes.Mode.{Mode}
-use Rattle.b3_core.specs.declared.tree.Span.{Span}
+use Rattle.b3_core.specs.declared.spans.Span.{Span}
 use Rattle.b3_board.specs.Entries.{IsInOrder, NoneOpen, at, kept_chunk, nothing, open_span, open_spans, pieces, some_open}
-use Rattle.b3_board.specs.Pictures.{IsAscending, IsDeposit, Piece, ahead, no_spans}
-use Rattle.b3_board.specs.Spans.{Known, has}
+use Rattle.b3_board.specs.BoardStates.{IsAscending, IsDeposit, Piece, ahead, no_spans}
+use Rattle.b3_board.specs.Spans.{KnownInput, chunk_in}
 use Rattle.b3_board.specs.declared.entries.Entry.{Entry}
 use Rattle.b3_board.specs.declared.entries.State.TheVariants.{Open}
 use Rattle.b3_board.proofs.Filtered.{All-filter_map, Contains-from_place, place-from_Contains}
-use Rattle.b3_board.proofs.Picturing.{kept_is_span, kept_span, kept_spans, open_is, picture_of, times_kept}
+use Rattle.b3_board.proofs.LawfulStates.{kept_is_span, kept_span, kept_spans, open_is, state_of, times_kept}
 use Rattle.b3_board.proofs.OpenSpans.{loses_span}
 
 -- an entry that is open is one of the open spans, and the other way round
@@ -56,20 +56,20 @@ module _ (es : List Entry) where
   first_open-none (Some s) is = tt
 
 -- a span of the board that was closed is deposited
-pub deposited : (input : Known) (mode : Mode) (first : ℕ) (es fs : List Entry) (place : ℕ) (s : Span)
+pub deposited : (input : KnownInput) (mode : Mode) (first : ℕ) (es fs : List Entry) (place : ℕ) (s : Span)
     (book : ℕ)
     → (at es place).state ≡ Open → (at es place).span ≡ s → map open_span fs ≡ set (map open_span es) place None
     → ((k : ℕ) → sum_by (kept_chunk k) fs
-    ≡ sum_by (kept_chunk k) es + has k (at es place).span.first (at es place).span.count)
-    → IsDeposit (picture_of input mode first es book) s (picture_of input mode first fs (book + s.count))
+    ≡ sum_by (kept_chunk k) es + chunk_in k (at es place).span.first (at es place).span.count)
+    → IsDeposit (state_of input mode first es book) s (state_of input mode first fs (book + s.count))
 deposited input mode first es fs place s book state_is span_is opens chunks = record {
   input_stays = refl;
   mode_stays = refl;
   first_stays = refl;
   opens = loses_span es fs place s state_is span_is opens;
   joins = λ k.
-      let counted : sum_by (kept_chunk k) fs ≡ sum_by (kept_chunk k) es + has k s.first s.count =
-      chunks k ∙ ap (λ (t : Span). sum_by (kept_chunk k) es + has k t.first t.count) span_is in
+      let counted : sum_by (kept_chunk k) fs ≡ sum_by (kept_chunk k) es + chunk_in k s.first s.count =
+      chunks k ∙ ap (λ (t : Span). sum_by (kept_chunk k) es + chunk_in k t.first t.count) span_is in
       omega (arith, counted, times_kept k es, times_kept k fs);
   books = refl;
 }

@@ -6,12 +6,12 @@ use Rattle.std.proofs.lemmas.List.Sums.{get_or-le-sum_by, sum_by-append, sum_by-
 use Rattle.std.proofs.lemmas.List.{get_or_default}
 use Rattle.std.specs.List.{Contains, sum_by}
 use Rattle.b3_core.specs.Subtrees.{AreChildren, IsSubtree}
-use Rattle.b3_core.specs.declared.tree.Span.{Span}
+use Rattle.b3_core.specs.declared.spans.Span.{Span}
 use Rattle.b3_core.proofs.Covers.{has_all}
 use Rattle.b3_core.proofs.Grid.{InGrid-from_IsSubtree, Within}
 use Rattle.b3_core.proofs.Siblings.{IsSubtree-had}
-use Rattle.b3_board.specs.Pictures.{IsDeposited, IsGreatest, IsLawful, Picture, Piece, PiecesAreGreatest, all_spans, piece_spans, size}
-use Rattle.b3_board.specs.Spans.{IsSubtreeSpan, has, times}
+use Rattle.b3_board.specs.BoardStates.{IsDeposited, IsGreatest, IsLawful, BoardState, Piece, PiecesAreGreatest, all_spans, piece_spans, size}
+use Rattle.b3_board.specs.Spans.{IsSubtreeSpan, chunk_in, coverage}
 
 -- where a sum is not 0, an element's part is not
 pub some_of_sum : {X : Type 0} (f : X → ℕ) (xs : List X) (d : X) → 0 < sum_by f xs
@@ -46,18 +46,18 @@ from_map f (x ∷ xs) y (suc k, lt, is) =
     let (z, (j, short, there), same) = from_map f xs y (k, omega arith, is) in
     (z, (suc j, omega arith, there), same)
 
-pub has_inside : (k a c : ℕ) → 0 < has k a c → (a ≤ k) × (k < a + c)
+pub has_inside : (k a c : ℕ) → 0 < chunk_in k a c → (a ≤ k) × (k < a + c)
 has_inside k a c h = (omega arith, omega arith)
 
-has_some : (k a c : ℕ) → a ≤ k → k < a + c → 0 < has k a c
+has_some : (k a c : ℕ) → a ≤ k → k < a + c → 0 < chunk_in k a c
 has_some k a c low high = omega arith
 
-module _ (picture : Picture) (lawful : IsLawful picture) where
+module _ (board : BoardState) (lawful : IsLawful board) where
   abbrev n : ℕ
-  n = size picture
+  n = size board
 
   abbrev spans : List Span
-  spans = piece_spans picture
+  spans = piece_spans board
 
   abbrev span : ℕ → ℕ → Span
   span a c = record { first = a; count = c }
@@ -66,33 +66,33 @@ module _ (picture : Picture) (lawful : IsLawful picture) where
   P a c = Contains spans (span a c)
 
   abbrev chunk_of : ℕ → Span → ℕ
-  chunk_of k s = has k s.first s.count
+  chunk_of k s = chunk_in k s.first s.count
 
   tree : (a c : ℕ) → P a c → IsSubtree n a c
   tree a c p =
-      let one_of_all = Contains-append_right picture.open_spans spans (span a c) p in
+      let one_of_all = Contains-append_right board.open_spans spans (span a c) p in
       IsSubtree-had n a c (omega arith)
-      (All-contains (IsSubtreeSpan n) (all_spans picture) (span a c) lawful.subtrees one_of_all)
+      (All-contains (IsSubtreeSpan n) (all_spans board) (span a c) lawful.subtrees one_of_all)
 
   apart : (a l b r : ℕ) → P a l → P b r → AreChildren n a l b r → ⊥
   apart a l b r p q kids =
-      let (x, x_in, x_is) = from_map (λ (piece : Piece). piece.span) picture.pieces (span a l) p in
-      let (y, y_in, y_is) = from_map (λ (piece : Piece). piece.span) picture.pieces (span b r) q in
+      let (x, x_in, x_is) = from_map (λ (piece : Piece). piece.span) board.pieces (span a l) p in
+      let (y, y_in, y_is) = from_map (λ (piece : Piece). piece.span) board.pieces (span b r) q in
       lawful.apart x y x_in y_in (rw (x_is, y_is) (inl kids))
 
-  at_most_once : (k : ℕ) → k < n → times k spans ≤ 1
-  at_most_once k lt = omega (arith, lawful.once k lt, sum_by-append (chunk_of k) picture.open_spans spans)
+  at_most_once : (k : ℕ) → k < n → coverage k spans ≤ 1
+  at_most_once k lt = omega (arith, lawful.once k lt, sum_by-append (chunk_of k) board.open_spans spans)
 
   inside : (a c : ℕ) → P a c → (a + c ≤ n) × (0 < c)
   inside a c p = let at = InGrid-from_IsSubtree n (omega arith) (tree a c p) in (at.ends, at.some)
 
-  deposited : (a c : ℕ) → P a c → IsDeposited picture a c
+  deposited : (a c : ℕ) → P a c → IsDeposited board a c
   deposited a c (i, short, is) k low high =
       let ends = (inside a c (i, short, is)).0 in
       let here : 0 < chunk_of k (get_or spans i (span a c)) = rw is (has_some k a c low high) in
       omega (arith, here, get_or-le-sum_by (chunk_of k) spans i (span a c) short, at_most_once k (omega arith))
 
-  covered : (a c : ℕ) → IsDeposited picture a c → (k : ℕ) → a ≤ k → k < a + c
+  covered : (a c : ℕ) → IsDeposited board a c → (k : ℕ) → a ≤ k → k < a + c
       → (b : ℕ) × (d : ℕ) × P b d × (b ≤ k) × (k < b + d)
   covered a c all k low high =
       let (i, short, some) = some_of_sum (chunk_of k) spans (span 0 0) (omega (arith, all k low high)) in
@@ -111,10 +111,10 @@ module _ (picture : Picture) (lawful : IsLawful picture) where
       (ap (λ (s : Span). s.first) same, ap (λ (s : Span). s.count) same)
 
   -- one piece has all of a subtree that was deposited
-  piece_over : (a c : ℕ) → IsSubtree n a c → IsDeposited picture a c → (b : ℕ) × (d : ℕ) × P b d × Within a c b d
+  piece_over : (a c : ℕ) → IsSubtree n a c → IsDeposited board a c → (b : ℕ) × (d : ℕ) × P b d × Within a c b d
   piece_over a c up all = has_all n (omega arith) P tree apart a c up (covered a c all)
 
-  piece_is_greatest : (a c : ℕ) → P a c → IsGreatest picture (span a c)
+  piece_is_greatest : (a c : ℕ) → P a c → IsGreatest board (span a c)
   piece_is_greatest a c p = record {
     subtree = ∣ tree a c p ∣₁;
     deposited = deposited a c p;
@@ -125,7 +125,7 @@ module _ (picture : Picture) (lawful : IsLawful picture) where
         (omega (arith, same.0), omega (arith, same.0, same.1));
   }
 
-  greatest_is_piece : (s : Span) → IsGreatest picture s → Contains spans s
+  greatest_is_piece : (s : Span) → IsGreatest board s → Contains spans s
   greatest_is_piece s top =
       let up = IsSubtree-had n s.first s.count (omega arith) top.subtree in
       let (b, d, q, (low, high)) = piece_over s.first s.count up top.deposited in
@@ -133,5 +133,5 @@ module _ (picture : Picture) (lawful : IsLawful picture) where
       subst (λ (x : ℕ). P x s.count) same.0 (subst (λ (y : ℕ). P b y) same.1 q)
 
   -- the pieces are just these
-  pub pieces_are_greatest : PiecesAreGreatest picture
+  pub pieces_are_greatest : PiecesAreGreatest board
   pieces_are_greatest s = (λ p. piece_is_greatest s.first s.count p, λ top. greatest_is_piece s top)

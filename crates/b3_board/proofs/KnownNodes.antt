@@ -8,9 +8,9 @@ use Rattle.b3_core.specs.Subtrees.{AreChildren}
 use Rattle.b3_core.specs.Tree.{chunks, parent_node, top}
 use Rattle.b3_core.specs.declared.modes.Mode.{Mode}
 use Rattle.b3_core.specs.declared.nodes.Node.{Node}
-use Rattle.b3_core.specs.declared.tree.Span.{Span}
+use Rattle.b3_core.specs.declared.spans.Span.{Span}
 use Rattle.b3_core.proofs.Siblings.{Kids-from_AreChildren}
-use Rattle.b3_board.specs.Spans.{IsNodeOf, IsRootOf, Known, MayBe, in_memory, part, top_of}
+use Rattle.b3_board.specs.Spans.{IsNodeOf, IsRootOf, KnownInput, MayBe, in_memory, part, top_of}
 use Rattle.b3_board.proofs.SpanBytes.{top-part}
 
 some_or : List ℕ → Option (List ℕ) → List ℕ
@@ -47,7 +47,7 @@ drop-spliced k xs ys short =
     ap (λ (n : ℕ). drop n (take k xs ++ drop k ys)) (sym (length-take-le k xs short))
     ∙ drop-append_seam (take k xs) (drop k ys)
 
-MayBe-spliced : (input : Known) (k : ℕ) (xs ys : List ℕ) → k ≤ input.len → MayBe input xs → MayBe input ys
+MayBe-spliced : (input : KnownInput) (k : ℕ) (xs ys : List ℕ) → k ≤ input.len → MayBe input xs → MayBe input ys
     → MayBe input (spliced k xs ys)
 unfolding spliced
 MayBe-spliced input k xs ys short x y = record {
@@ -73,7 +73,7 @@ front_part k a l xs ys is same =
     ∙ drop-take (1024 * a) (1024 * l) ys
 
 -- the node of a subtree from those of its two children, each of bytes that the input may have
-pub IsNodeOf-joined : (input : Known) (mode : Mode) (first a l b r : ℕ) (x y : Node)
+pub IsNodeOf-joined : (input : KnownInput) (mode : Mode) (first a l b r : ℕ) (x y : Node)
     → AreChildren (chunks input.len) a l b r
     → IsNodeOf input mode first (record { first = a; count = l }) x
     → IsNodeOf input mode first (record { first = b; count = r }) y
@@ -105,18 +105,18 @@ IsNodeOf-joined input mode first a l b r x y kids x_is y_is =
     }
 
 -- the root of an input that is told is the top of its bytes
-pub IsRootOf-told : (input : Known) (mode : Mode) (first : ℕ) (node : Node) → IsRootOf input mode first node
+pub IsRootOf-told : (input : KnownInput) (mode : Mode) (first : ℕ) (node : Node) → IsRootOf input mode first node
     → (all : List ℕ) → input.told ≡ Some all → node ≡ top mode first all
 IsRootOf-told input mode first node is all told = is.is_top ∙ ap (top mode first) (is.may_be.told_is all told)
 
--- the same of an input in memory that is the named one
-pub IsNodeOf-named : (bytes : List ℕ) (input : Known) (mode own_mode : Mode) (first own_first : ℕ) (span : Span)
+-- the same of an input in memory that is the known one
+pub IsNodeOf-named : (bytes : List ℕ) (input : KnownInput) (mode own_mode : Mode) (first own_first : ℕ) (span : Span)
     (node : Node)
     → in_memory bytes ≡ input → mode ≡ own_mode → first ≡ own_first → node ≡ top_of bytes mode first span
     → IsNodeOf input own_mode own_first span node
 IsNodeOf-named bytes input mode own_mode first own_first span node input_is mode_is first_is is = record {
   bytes = bytes;
-  may_be = subst (λ (k : Known). MayBe k bytes) input_is (MayBe-in_memory bytes);
+  may_be = subst (λ (k : KnownInput). MayBe k bytes) input_is (MayBe-in_memory bytes);
   is_top = is ∙ (λ i. top_of bytes (mode_is i) (first_is i) span);
 }
 
@@ -172,7 +172,7 @@ drop-amid a bytes rest =
     ∙ drop-append_seam (zeros a) (bytes ++ zeros rest)
 
 -- the node of bytes that were read for a span: as many as are its own, and its own where they are told
-pub IsNodeOf-read : (input : Known) (mode : Mode) (first : ℕ) (s : Span) (node : Node) (bytes : List ℕ)
+pub IsNodeOf-read : (input : KnownInput) (mode : Mode) (first : ℕ) (s : Span) (node : Node) (bytes : List ℕ)
     → s.first + s.count ≤ chunks input.len → 0 < s.count
     → length bytes ≡ min (1024 * s.count) (input.len - 1024 * s.first)
     → ((all : List ℕ) → input.told ≡ Some all

@@ -8,7 +8,7 @@ pub mod RegionBytes
 pub mod Finding
 -- The sibling of a piece among the pieces.
 pub mod Partners
--- What closing a span and joining two siblings does to a picture.
+-- What closing a span and joining two siblings does to the state of a board.
 pub mod Steps
 -- A board on which all spans are open is lawful.
 pub mod Cuttings
@@ -16,11 +16,11 @@ pub mod Cuttings
 pub mod OpenSpans
 -- What a list keeps of another, by `filter_map`: each element, one by one, and sums.
 pub mod Filtered
--- The picture of a lawful board is lawful.
-pub mod Picturing
+-- The state of a lawful board is lawful.
+pub mod LawfulStates
 -- The pieces of a lawful board are the greatest subtrees of deposited chunks.
 pub mod Greatest
--- A deposit, and what else the calls of a board say, on the picture.
+-- A deposit, and what else the calls of a board say, on its state.
 pub mod Deposits
 -- How often an index stands in a list, and which indexes a row of truth values has.
 pub mod ClaimedIndexes

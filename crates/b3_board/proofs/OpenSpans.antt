@@ -8,14 +8,14 @@ use Rattle.std.specs.List.{sum_by, filter_map, cons_option}
 use Rattle.b3_core.specs.Subtrees.{AreChildren, IsSubtree}
 use Rattle.b3_core.specs.Tree.{chunks, top}
 use Rattle.b3_core.specs.declared.modes.Mode.{Mode}
-use Rattle.b3_core.specs.declared.tree.Span.{Span}
+use Rattle.b3_core.specs.declared.spans.Span.{Span}
 use Rattle.b3_core.proofs.Grid.{InGrid-from_IsSubtree}
 use Rattle.b3_board.specs.declared.entries.Entry.{Entry}
 use Rattle.b3_board.specs.declared.entries.State.{State}
 use Rattle.b3_board.specs.declared.entries.State.TheVariants.{Open, Kept, Joined}
 use Rattle.b3_board.specs.Entries.{at, nothing, has_chunk, kept_count, open_count, if_kept, if_open, open_span, open_spans, some_open, is_kept, is_joined, FitsState, Lawful, NoneOpen}
-use Rattle.b3_board.specs.Pictures.{LosesSpan}
-use Rattle.b3_board.specs.Spans.{IsRootOf, Known, has, part}
+use Rattle.b3_board.specs.BoardStates.{LosesSpan}
+use Rattle.b3_board.specs.Spans.{IsRootOf, KnownInput, chunk_in, part}
 use Rattle.b3_board.specs.declared.entries.KeptNode.{KeptNode}
 use Rattle.b3_board.proofs.Partners.{kept_short, kept_some, what_is_kept}
 use Rattle.b3_core.proofs.Siblings.{IsSubtree-had}
@@ -40,7 +40,7 @@ sum_of_none f es none =
       | inr no_more ↦ omega arith
     ]
 
-pub has_inside : (k a c : ℕ) → 0 < has k a c → (a ≤ k) × (k < a + c)
+pub has_inside : (k a c : ℕ) → 0 < chunk_in k a c → (a ≤ k) × (k < a + c)
 has_inside k a c h = (omega arith, omega arith)
 
 is_some_span : Option Span → Bool
@@ -70,7 +70,7 @@ kept_else (Kept n) x closed there = refl
 abbrev Piece : List Entry → ℕ → ℕ → ℕ → Type 0
 Piece es a c i = (is_kept (at es i).state ≡ true) × ((at es i).span.first ≡ a) × ((at es i).span.count ≡ c)
 
-module _ (input : Known) (mode : Mode) (first : ℕ) (es : List Entry) (lawful : Lawful input mode first es) where
+module _ (input : KnownInput) (mode : Mode) (first : ℕ) (es : List Entry) (lawful : Lawful input mode first es) where
   abbrev n : ℕ
   n = chunks input.len
 

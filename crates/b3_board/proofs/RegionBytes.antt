@@ -2,7 +2,7 @@
 use Rattle.std.proofs.Common.{◌≡◌, ℕ, ◌+◌, ◌-◌, ◌*◌, ◌≤◌, min, Bool, true, false, List, length, take, drop, Option, Some, None, inl, inr, arith, sym, ap, ◌∙◌}
 use Rattle.std.proofs.lemmas.Bool.{cases_lt, false≢true}
 use Rattle.std.proofs.lemmas.List.{length-drop, length-take-le, drop-drop, drop-take, take-take, take_all, length-take}
-use Rattle.b3_core.specs.declared.tree.Span.{Span}
+use Rattle.b3_core.specs.declared.spans.Span.{Span}
 use Rattle.b3_board.specs.Regions.{region}
 use Rattle.b3_board.specs.Spans.{part}
 use Rattle.b3_board.proofs.KnownNodes.{some_is}

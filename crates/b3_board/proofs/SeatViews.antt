@@ -4,21 +4,22 @@ use Rattle.std.specs.Prelude.{Result, Ok, Err, IsOk, OnOk}
 use Rattle.atomic_table.specs.Seated.{TableId}
 use Rattle.atomic_table.specs.Table.{Me}
 use Rattle.b3_board.specs.declared.claim_rule.View.{View}
-use Rattle.b3_board.specs.Claiming.{joined, tried, IsSound}
-use Rattle.b3_board.specs.Seats.{Indexes, Seated, IsSeatOf, KeepsSeat}
+use Rattle.b3_board.specs.Claiming.{joined, tried}
+use Rattle.b3_board.specs.ClaimRule.{IsSound, KeepsSeat}
+use Rattle.b3_board.specs.Seats.{ClaimsState, SeatState, IsSeatOf}
 
-pub IsSeatOf-same : {x y : Indexes} {s t : Seated} → x ≡ y → s ≡ t → IsSeatOf y t → IsSeatOf x s
+pub IsSeatOf-same : {x y : ClaimsState} {s t : SeatState} → x ≡ y → s ≡ t → IsSeatOf y t → IsSeatOf x s
 IsSeatOf-same p q own = (
-  ap (λ (u : Seated). u.table) q ∙ own.0 ∙ sym (ap (λ (u : Indexes). u.table) p),
-  ap (λ (u : Seated). length u.view.seen) q ∙ own.1 ∙ sym (ap (λ (u : Indexes). u.count) p),
+  ap (λ (u : SeatState). u.table) q ∙ own.0 ∙ sym (ap (λ (u : ClaimsState). u.table) p),
+  ap (λ (u : SeatState). length u.view.seen) q ∙ own.1 ∙ sym (ap (λ (u : ClaimsState). u.count) p),
 )
 
 -- a seat whose table and number of indexes stay is a seat of the same claims
-pub IsSeatOf-kept : {x y : Indexes} {s t : Seated} → x ≡ y → s ≡ t → IsSeatOf y t → {table : TableId} {n : ℕ}
+pub IsSeatOf-kept : {x y : ClaimsState} {s t : SeatState} → x ≡ y → s ≡ t → IsSeatOf y t → {table : TableId} {n : ℕ}
     → table ≡ s.table → n ≡ length s.view.seen → (table ≡ y.table) × (n ≡ y.count)
 IsSeatOf-kept p q own same_table same_length = (
-  same_table ∙ ap (λ (u : Seated). u.table) q ∙ own.0,
-  same_length ∙ ap (λ (u : Seated). length u.view.seen) q ∙ own.1,
+  same_table ∙ ap (λ (u : SeatState). u.table) q ∙ own.0,
+  same_length ∙ ap (λ (u : SeatState). length u.view.seen) q ∙ own.1,
 )
 
 pub KeepsSeat-lost : (me : Me (Unit {0}) View) (i : ℕ) {parts : ℕ} {list : List ℕ} → KeepsSeat me parts list

@@ -1,4 +1,4 @@
--- What closing a span and joining two siblings does to a picture.
+-- What closing a span and joining two siblings does to the state of a board.
 use Rattle.std.proofs.Common.{inl, inr, ◌⊎◌, ◌≡◌, ◌≢◌, ℕ, ◌+◌, ◌<◌, ◌≤◌, true, List, length, map, set, None, arith, refl, sym, subst, ap, ◌∙◌}
 use Rattle.std.proofs.lemmas.Bool.{cases_lt, cases_eq, false≢true, ne_eqb}
 use Rattle.std.proofs.lemmas.List.{get_or-set_same, get_or-set_other, length-set, set-get_or, map-set, get_or-map}
@@ -9,28 +9,28 @@ use Rattle.b3_core.specs.Tree.{chunks, parent_node}
 use Rattle.b3_core.specs.declared.modes.Mode.{Mode}
 use Rattle.b3_core.specs.declared.nodes.Node.{Node}
 use Rattle.b3_board.specs.declared.entries.KeptNode.{KeptNode}
-use Rattle.b3_core.specs.declared.tree.Span.{Span}
+use Rattle.b3_core.specs.declared.spans.Span.{Span}
 use Rattle.b3_board.specs.declared.entries.Entry.{Entry}
 use Rattle.b3_board.specs.declared.entries.State.{State}
 use Rattle.b3_board.specs.declared.entries.State.TheVariants.{Open, Kept, Joined}
 use Rattle.b3_board.specs.Entries.{at, nothing, has_chunk, kept_chunk, kept_count, open_count, open_span, if_kept, if_open, some_open, is_kept, is_joined, AreChildEntries, IsInOrder, FitsState, KeepsTop, Sound, Lawful, Apart, ApartBut, IsJoined, joined, closed, widened, emptied, kept_node}
-use Rattle.b3_board.specs.Spans.{IsNodeOf, IsSubtreeSpan, Known, has}
+use Rattle.b3_board.specs.Spans.{IsNodeOf, IsSubtreeSpan, KnownInput, chunk_in}
 use Rattle.b3_board.proofs.KnownNodes.{IsNodeOf-joined}
 use Rattle.b3_board.proofs.Partners.{what_is_kept}
 use Rattle.b3_core.proofs.Siblings.{Kids-from_AreChildren}
 
 -- ---- one chunk in a span
 
-has_in : (k a c : ℕ) → a ≤ k → k < a + c → has k a c ≡ 1
+has_in : (k a c : ℕ) → a ≤ k → k < a + c → chunk_in k a c ≡ 1
 has_in k a c low high = omega arith
 
-has_before : (k a c : ℕ) → k < a → has k a c ≡ 0
+has_before : (k a c : ℕ) → k < a → chunk_in k a c ≡ 0
 has_before k a c before = omega arith
 
-has_after : (k a c : ℕ) → a + c ≤ k → has k a c ≡ 0
+has_after : (k a c : ℕ) → a + c ≤ k → chunk_in k a c ≡ 0
 has_after k a c after = omega arith
 
-pub has_sum : (k a l b r : ℕ) → b ≡ a + l → has k a (l + r) ≡ has k a l + has k b r
+pub has_sum : (k a l b r : ℕ) → b ≡ a + l → chunk_in k a (l + r) ≡ chunk_in k a l + chunk_in k b r
 has_sum k a l b r next =
     elim (cases_lt k a) [
       | inl before ↦ omega (
@@ -65,7 +65,7 @@ has_sum k a l b r next =
           ]
     ]
 
-pub has_none : (k a : ℕ) → has k a 0 ≡ 0
+pub has_none : (k a : ℕ) → chunk_in k a 0 ≡ 0
 has_none k a = elim (cases_lt k a) [ inl before ↦ has_before k a 0 before | inr after ↦ has_after k a 0 (omega arith) ]
 
 -- ---- entries after one write and after two
@@ -118,7 +118,7 @@ kept_is a x e = ap (λ (s : State). kept_or s a) e
 
 -- ---- two siblings joined
 
-module _ (input : Known) (mode : Mode) (first : ℕ) (es : List Entry) (sound : Sound input mode first es)
+module _ (input : KnownInput) (mode : Mode) (first : ℕ) (es : List Entry) (sound : Sound input mode first es)
     (l r : ℕ) (l_short : l < length es) (r_short : r < length es) (distinct : l ≢ r)
     (a b : KeptNode) (l_is : (at es l).state ≡ Kept a) (r_is : (at es r).state ≡ Kept b)
     (kids : AreChildEntries (chunks input.len) (at es l) (at es r)) where
@@ -180,8 +180,8 @@ module _ (input : Known) (mode : Mode) (first : ℕ) (es : List Entry) (sound : 
   joined-kept_chunk k =
       let two = sum_two (kept_chunk k) es l r wide (emptied (at es r)) l_short r_short distinct in
       let sums = has_sum k (at es l).span.first (at es l).span.count (at es r).span.first (at es r).span.count kids.2 in
-      let le = ap (λ (s : State). if_kept s (has k (at es l).span.first (at es l).span.count)) l_is in
-      let re = ap (λ (s : State). if_kept s (has k (at es r).span.first (at es r).span.count)) r_is in
+      let le = ap (λ (s : State). if_kept s (chunk_in k (at es l).span.first (at es l).span.count)) l_is in
+      let re = ap (λ (s : State). if_kept s (chunk_in k (at es r).span.first (at es r).span.count)) r_is in
       omega (arith, two, sums, le, re)
 
   pub joined-kept_count : sum_by kept_count after ≡ sum_by kept_count es
@@ -259,7 +259,7 @@ module _ (input : Known) (mode : Mode) (first : ℕ) (es : List Entry) (sound : 
 
 -- ---- an open span closed
 
-module _ (input : Known) (mode : Mode) (first : ℕ) (es : List Entry) (lawful : Lawful input mode first es)
+module _ (input : KnownInput) (mode : Mode) (first : ℕ) (es : List Entry) (lawful : Lawful input mode first es)
     (i : ℕ) (short : i < length es) (is_open_at : (at es i).state ≡ Open)
     (kept : KeptNode) (is_top : IsNodeOf input mode first (at es i).span kept.node)
     (is_chaining : kept.chaining_value ≡ chaining kept.node) where
@@ -301,12 +301,12 @@ module _ (input : Known) (mode : Mode) (first : ℕ) (es : List Entry) (lawful :
       ]
 
   pub closed-kept_chunk : (k : ℕ)
-      → sum_by (kept_chunk k) next ≡ sum_by (kept_chunk k) es + has k (at es i).span.first (at es i).span.count
+      → sum_by (kept_chunk k) next ≡ sum_by (kept_chunk k) es + chunk_in k (at es i).span.first (at es i).span.count
   closed-kept_chunk k =
       omega (
         arith,
         sum_by-set (kept_chunk k) es i done nothing short,
-        ap (λ (s : State). if_kept s (has k (at es i).span.first (at es i).span.count)) is_open_at,
+        ap (λ (s : State). if_kept s (chunk_in k (at es i).span.first (at es i).span.count)) is_open_at,
       )
 
   pub closed-kept_count : sum_by kept_count next ≡ sum_by kept_count es + (at es i).span.count
@@ -362,7 +362,7 @@ grown : (l r h : ℕ) → 0 < l → 0 < r → (h ≡ l) ⊎ (h ≡ r) → h < l 
 grown l r h some more (inl e) = omega arith
 grown l r h some more (inr e) = omega arith
 
-pub is_joined_well : (input : Known) (mode : Mode) (first : ℕ) (es : List Entry) (here : ℕ) (fs : List Entry)
+pub is_joined_well : (input : KnownInput) (mode : Mode) (first : ℕ) (es : List Entry) (here : ℕ) (fs : List Entry)
     (l r : ℕ) → l < length es → r < length es → l ≢ r
     → is_kept (at es l).state ≡ true → is_kept (at es r).state ≡ true
     → AreChildEntries (chunks input.len) (at es l) (at es r)

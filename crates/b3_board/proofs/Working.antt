@@ -3,20 +3,20 @@ use Rattle.std.proofs.Common.{◌≡◌, ℕ, ◌+◌, ◌<◌, ◌≤◌, Bool,
 use Rattle.std.proofs.lemmas.List.Sums.{sum_by_push}
 use mathlib.Core.Logic.{dite}
 use native.Mathlib.Decide.{ℕ_discrete}
-use Rattle.b3_core.specs.declared.tree.Span.{Span}
-use Rattle.b3_board.specs.Claiming.{has, tried}
-use Rattle.b3_board.specs.Seats.{BeginsWith, Seated}
-use Rattle.b3_board.specs.Shares.{Holding}
+use Rattle.b3_core.specs.declared.spans.Span.{Span}
+use Rattle.b3_board.specs.Claiming.{is_set, tried}
+use Rattle.b3_board.specs.Seats.{BeginsWith, SeatState}
+use Rattle.b3_board.specs.Shares.{ShareState}
 use Rattle.b3_board.specs.WorkerRuns.{HasWorked, claimed_chunks, count_at}
 use Rattle.b3_board.specs.declared.claim_rule.View.{View}
-use Rattle.b3_board.proofs.ClaimedIndexes.{has-set_kept, has-set_same}
+use Rattle.b3_board.proofs.ClaimedIndexes.{is_set-set_kept, is_set-set_same}
 
-has-tried : (v : View) (i j : ℕ) (won : Bool) → i < length v.seen → ((k : ℕ) → k < i → has v.seen k ≡ true) → j < i + 1
-    → has (tried v i won).seen j ≡ true
-has-tried v i j won inside before lt =
+is_set-tried : (v : View) (i j : ℕ) (won : Bool) → i < length v.seen → ((k : ℕ) → k < i → is_set v.seen k ≡ true) → j < i + 1
+    → is_set (tried v i won).seen j ≡ true
+is_set-tried v i j won inside before lt =
     dite (ℕ_discrete j i)
-    (λ same. subst (λ (k : ℕ). has (set v.seen i true) k ≡ true) (sym same) (has-set_same v.seen i inside))
-    (λ other. has-set_kept v.seen i j (before j (omega arith)))
+    (λ same. subst (λ (k : ℕ). is_set (set v.seen i true) k ≡ true) (sym same) (is_set-set_same v.seen i inside))
+    (λ other. is_set-set_kept v.seen i j (before j (omega arith)))
 
 BeginsWith-tried : (v : View) (i : ℕ) (won : Bool) (start : List ℕ) → BeginsWith v.claimed start
     → BeginsWith (tried v i won).claimed start
@@ -30,8 +30,8 @@ claimed_chunks-tried : (spans : List Span) (v : View) (i : ℕ) (won : Bool)
 claimed_chunks-tried spans v i true = sum_by_push (count_at spans) v.claimed i
 claimed_chunks-tried spans v i false = omega arith
 
-pub HasWorked-tried : (spans : List Span) (i : ℕ) (won : Bool) (old_seat seat next_seat : Seated)
-    (old_share share next_share : Holding)
+pub HasWorked-tried : (spans : List Span) (i : ℕ) (won : Bool) (old_seat seat next_seat : SeatState)
+    (old_share share next_share : ShareState)
     → HasWorked spans i old_seat old_share seat share
     → i < length seat.view.seen
     → next_seat.view ≡ tried seat.view i won
@@ -47,7 +47,7 @@ HasWorked-tried spans i won old_seat seat next_seat old_share share next_share w
     record {
       seat_parts = ap (λ (w : View). w.parts) view ∙ worked.seat_parts;
       share_parts = parts ∙ worked.share_parts;
-      seen = λ j lt. ap (λ (w : View). has w.seen j) view ∙ has-tried v i j won inside worked.seen lt;
+      seen = λ j lt. ap (λ (w : View). is_set w.seen j) view ∙ is_set-tried v i j won inside worked.seen lt;
       begins = subst (λ (w : View). BeginsWith w.claimed old_seat.view.claimed) (sym view)
           (BeginsWith-tried v i won old_seat.view.claimed worked.begins);
       grown = omega arith;

@@ -6,9 +6,9 @@ use Rattle.b3_core.specs.Subtrees.{AreChildren}
 use Rattle.b3_core.specs.Tree.{chunks}
 use Rattle.b3_core.specs.declared.modes.Mode.{Mode}
 use Rattle.b3_core.specs.declared.nodes.Node.{Node}
-use Rattle.b3_core.specs.declared.tree.Span.{Span}
-use Rattle.b3_board.specs.Pictures.{Piece}
-use Rattle.b3_board.specs.Spans.{IsNodeOf, IsSubtreeSpan, Known, has}
+use Rattle.b3_core.specs.declared.spans.Span.{Span}
+use Rattle.b3_board.specs.BoardStates.{Piece}
+use Rattle.b3_board.specs.Spans.{IsNodeOf, IsSubtreeSpan, KnownInput, chunk_in}
 use Rattle.b3_board.specs.declared.entries.Entry.{Entry}
 use Rattle.b3_board.specs.declared.entries.KeptNode.{KeptNode}
 use Rattle.b3_board.specs.declared.entries.State.{State}
@@ -28,7 +28,7 @@ IsInOrder es = (i j : ℕ) → i < j → j < length es → (at es i).span.first 
 
 -- the entry's span has chunk k: 1, else 0
 abbrev pub has_chunk : ℕ → Entry → ℕ
-has_chunk k e = has k e.span.first e.span.count
+has_chunk k e = chunk_in k e.span.first e.span.count
 
 abbrev pub is_kept : State → Bool
 is_kept Open = false
@@ -52,7 +52,7 @@ if_kept Joined x = 0
 
 -- of the pieces alone: whether the span has chunk k, and how many chunks it has
 abbrev pub kept_chunk : ℕ → Entry → ℕ
-kept_chunk k e = if_kept e.state (has k e.span.first e.span.count)
+kept_chunk k e = if_kept e.state (chunk_in k e.span.first e.span.count)
 
 abbrev pub kept_count : Entry → ℕ
 kept_count e = if_kept e.state e.span.count
@@ -91,13 +91,13 @@ abbrev pub kept_node : Node → KeptNode
 kept_node node = record { node = node; chaining_value = chaining node }
 
 -- what is done of a span: the node is that of the span, with its chaining value
-pub record KeepsNode (input : Known) (mode : Mode) (first : ℕ) (span : Span) (node : Node)
+pub record KeepsNode (input : KnownInput) (mode : Mode) (first : ℕ) (span : Span) (node : Node)
     (chaining_value : List ℕ) : Type 0 where
   pub node_is : IsNodeOf input mode first span node
   pub chaining_is : chaining_value ≡ chaining node
 
 -- what is kept of a span is the top of the input's chunks in it, with its chaining value
-abbrev pub KeepsTop : Known → Mode → ℕ → State → Span → Type 0
+abbrev pub KeepsTop : KnownInput → Mode → ℕ → State → Span → Type 0
 KeepsTop input mode first state s = (kept : KeptNode) → state ≡ Kept kept
     → IsNodeOf input mode first s kept.node × (kept.chaining_value ≡ chaining kept.node)
 
@@ -106,7 +106,7 @@ abbrev pub FitsState : State → ℕ → Type 0
 FitsState state c = is_joined state ≡ nat_eq c 0
 
 -- all of a lawful board but that no two pieces are siblings
-pub record Sound (input : Known) (mode : Mode) (first : ℕ) (es : List Entry) : Type 0 where
+pub record Sound (input : KnownInput) (mode : Mode) (first : ℕ) (es : List Entry) : Type 0 where
   pub in_order : IsInOrder es
   pub fits : (i : ℕ) → FitsState (at es i).state (at es i).span.count
   pub subtrees : (i : ℕ) → 0 < (at es i).span.count → IsSubtreeSpan (chunks input.len) (at es i).span
@@ -129,7 +129,7 @@ Apart n es = (i j : ℕ) → is_kept (at es i).state ≡ true → is_kept (at es
     → ¬ AreChildEntries n (at es i) (at es j)
 
 -- the entries of a lawful board
-pub record Lawful (input : Known) (mode : Mode) (first : ℕ) (es : List Entry) : Type 0 where
+pub record Lawful (input : KnownInput) (mode : Mode) (first : ℕ) (es : List Entry) : Type 0 where
   pub sound : Sound input mode first es
   pub apart : Apart (chunks input.len) es
 
@@ -153,7 +153,7 @@ abbrev pub closed : List Entry → ℕ → KeptNode → List Entry
 closed es i kept = slice_set es i (record { span = (at es i).span; state = Kept kept })
 
 -- the piece at `here` and its sibling became the piece at `place`
-pub record IsJoined (input : Known) (mode : Mode) (first : ℕ) (es : List Entry) (here : ℕ)
+pub record IsJoined (input : KnownInput) (mode : Mode) (first : ℕ) (es : List Entry) (here : ℕ)
     (fs : List Entry) (place : ℕ) : Type 0 where
   pub inside : place < length fs
   pub kept : is_kept (at fs place).state ≡ true
@@ -174,7 +174,7 @@ NoneOpen es = (i : ℕ) → open_span (at es i) ≡ None
 
 -- what a board keeps: the entries are lawful, the chunks of the pieces add up to the book, no open span has more chunks
 -- than the grain, and a span whose bytes could not be had shows that they are not sure
-pub record KeepsBoard (input : Known) (mode : Mode) (first grain : ℕ) (sure : Type 0)
+pub record KeepsBoard (input : KnownInput) (mode : Mode) (first grain : ℕ) (sure : Type 0)
     (es : List Entry) (book : ℕ) (missed : Bool) : Type 0 where
   pub lawful : Lawful input mode first es
   pub booked : sum_by kept_count es ≡ book

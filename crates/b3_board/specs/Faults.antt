@@ -2,7 +2,7 @@
 use Rattle.std.specs.Prelude.{◌≡◌, ◌⊎◌, ℕ, ◌<◌, ◌≤◌, ◌^◌, List, length}
 use Rattle.std.specs.Int.{div_ceil}
 use Rattle.b3_core.specs.Tree.{chunks}
-use Rattle.b3_core.specs.declared.tree.Span.{Span}
+use Rattle.b3_core.specs.declared.spans.Span.{Span}
 use Rattle.b3_board.specs.Plans.{IsCutting, IsGrain}
 use Rattle.b3_board.specs.declared.fault.BoardFault.{BoardFault}
 use Rattle.b3_board.specs.declared.fault.BoardFault.TheVariants.{BadGrain, BadCut, TooLarge, TooManySpans, Memory, BadWorkers}

@@ -2,10 +2,13 @@ pub mod Spans
 pub mod Plans
 pub mod Regions
 pub mod Faults
-pub mod Pictures
+pub mod BoardStates
 pub mod Shares
 pub mod RootNodes
 pub mod Entries
 pub mod Claiming
 pub mod Seats
+pub mod ClaimRule
 pub mod WorkerRuns
+pub mod SpanHashers
+pub mod WorkerStates

@@ -1,30 +1,8 @@
--- Sources: what is known of a part of one, and of the spans that it is cut into.
-use Rattle.std.specs.Prelude.{◌≡◌, ℕ, List, take, drop, Option, Some, None, Result, Ok, Err}
+-- A region of a source: what is known of its bytes.
+use Rattle.std.specs.Prelude.{ℕ, List, take, drop, Option}
 use Rattle.std.specs.Option.{option_map}
-use Rattle.b3_core.specs.declared.modes.Mode.{Mode}
-use Rattle.b3_core.specs.declared.tree.Span.{Span}
-use Rattle.b3_board.specs.Pictures.{Piece}
-use Rattle.b3_board.specs.Spans.{Known}
+use Rattle.b3_board.specs.Spans.{KnownInput}
 
 -- what is known of the bytes at an offset, from what is told of all
-abbrev pub region : Option (List ℕ) → ℕ → ℕ → Known
+abbrev pub region : Option (List ℕ) → ℕ → ℕ → KnownInput
 region told offset len = record { told = option_map (λ all. take len (drop offset all)) told; len = len }
-
--- what is known of an input, its mode and its first chunk are the named ones, and it is sure where the named one is
-pub record IsNamed (own_input : Known) (own_mode : Mode) (own_first : ℕ) (own_sure : Type 0)
-    (input : Known) (mode : Mode) (first : ℕ) (sure : Type 0) : Type 0 where
-  pub input_is : input ≡ own_input
-  pub mode_is : mode ≡ own_mode
-  pub first_is : first ≡ own_first
-  pub sure_is : own_sure → sure
-
--- the span whose node is made, or whose bytes could not be had
-abbrev pub span_of : Result Piece Span → Span
-span_of (Ok piece) = piece.span
-span_of (Err span) = span
-
--- the node is made
-abbrev pub IsMade : Option (Result Piece Span) → Type 0
-IsMade None = ⊥
-IsMade (Some (Ok piece)) = Unit {0}
-IsMade (Some (Err span)) = ⊥

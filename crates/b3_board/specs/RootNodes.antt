@@ -1,4 +1,4 @@
--- The root of a tree, as contracts see it.
+-- The root of a tree, as contracts see it (BLAKE3 (2020), 2.1).
 use Rattle.std.specs.Prelude.{Bool}
 use Rattle.b3_core.specs.declared.nodes.Node.{Node}
 

@@ -1,37 +1,27 @@
 -- Claims and their seats, as contracts see them.
-use Rattle.std.specs.Prelude.{◌≡◌, ℕ, ◌<◌, ◌≤◌, List, [], ◌++◌, length, true}
+use Rattle.std.specs.Prelude.{◌≡◌, ℕ, ◌<◌, List, ◌++◌, length, true}
 use Rattle.atomic_table.specs.Seated.{TableId}
-use Rattle.atomic_table.specs.Table.{Me}
-use Rattle.b3_board.specs.Claiming.{has}
+use Rattle.b3_board.specs.Claiming.{is_set}
 use Rattle.b3_board.specs.declared.claim_rule.View.{View}
 
 -- claims: how many indexes there are, and the table of their words
-pub record Indexes : Type 0 where
+pub record ClaimsState : Type 0 where
   pub count : ℕ
   pub table : TableId
 
 -- a seat: what it knows, and the table that it steps on
-pub record Seated : Type 0 where
+pub record SeatState : Type 0 where
   pub view : View
   pub table : TableId
 
 -- the seat is of these claims
-abbrev pub IsSeatOf : Indexes → Seated → Type 0
+abbrev pub IsSeatOf : ClaimsState → SeatState → Type 0
 IsSeatOf claims seat = (seat.table ≡ claims.table) × (length seat.view.seen ≡ claims.count)
 
 -- the seat has seen each index below n
-abbrev pub HasSeenAll : ℕ → Seated → Type 0
-HasSeenAll n seat = (i : ℕ) → i < n → has seat.view.seen i ≡ true
+abbrev pub HasSeenAll : ℕ → SeatState → Type 0
+HasSeenAll n seat = (i : ℕ) → i < n → is_set seat.view.seen i ≡ true
 
 -- the list begins with the other one
 abbrev pub BeginsWith : List ℕ → List ℕ → Type 0
 BeginsWith list start = (rest : List ℕ) × (list ≡ start ++ rest)
-
--- what the fields of a seat keep: its parts and its list are those of what it knows, it has a part and no more
--- than all, and it holds no slot
-pub record KeepsSeat (me : Me (Unit {0}) View) (parts : ℕ) (claimed : List ℕ) : Type 0 where
-  pub parts_are : me.0.parts ≡ parts
-  pub list_is : me.0.claimed ≡ claimed
-  pub some : 0 < parts
-  pub most : parts ≤ 128
-  pub no_slot : me.1 ≡ []

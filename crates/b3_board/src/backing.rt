@@ -3,7 +3,7 @@
 ghost use Rattle.std.specs.Prelude.{◌≡◌, ℕ, ◌^◌};
 ghost use Rattle.b3_board.specs.Spans.{in_memory};
 
-use crate::named::Named;
+use crate::input_ledger::InputLedger;
 use crate::tree::Tree;
 use b3_core::Span;
 use std::marker::{Brand, Model, PhantomData};
@@ -17,9 +17,9 @@ pub trait Backing: Drop {
     ghost sure: { Type 0 };
 }
 
-/// The named input, which lies in memory.
+/// The input that the ledger names, which lies in memory.
 #[derive(Drop)]
-pub struct InMemory<'a, L: Named> {
+pub struct InMemory<'a, L: InputLedger> {
     pub(crate) tree: Tree<'a>,
     of: PhantomData<L>,
     ghost input_is: { in_memory tree.input.now ≡ L.input },
@@ -27,13 +27,13 @@ pub struct InMemory<'a, L: Named> {
     ghost first_is: { tree.first ≡ L.first },
 }
 
-impl<'a, L: Named> Backing for InMemory<'a, L> {
+impl<'a, L: InputLedger> Backing for InMemory<'a, L> {
     ghost grain = { 2 ^ 20 };
 
     ghost sure = { Unit {0} };
 }
 
-impl<'a, L: Named> InMemory<'a, L> {
+impl<'a, L: InputLedger> InMemory<'a, L> {
     pub(crate) fn new(tree: Tree<'a>) -> InMemory<'a, L>
         requires input { in_memory tree.input.now ≡ L.input }
         requires mode { tree.mode ≡ L.mode }
@@ -47,8 +47,8 @@ impl<'a, L: Named> InMemory<'a, L> {
     }
 }
 
-/// How a named input is read from a source. The call that opens the board's ledger picks it, with the input.
-pub trait Sourced: Named {
+/// A ledger whose input is read from a source: how that is. The call that opens it picks this, with the input.
+pub trait SourceLedger: InputLedger {
     /// The most chunks in a span.
     ghost grain: { ℕ };
 
@@ -56,26 +56,26 @@ pub trait Sourced: Named {
     ghost sure: { Type 0 };
 }
 
-// As `Named` at `Brand`: the proof of `hash_source` picks them.
-impl Sourced for Brand {
+// As `InputLedger` at `Brand`: the proof of `hash_source` picks them.
+impl SourceLedger for Brand {
     ghost grain = { 0 };
 
     ghost sure = { ⊥ };
 }
 
-/// The named input, which is read from a source: no byte of it is at hand.
+/// The input that the ledger names, which is read from a source: no byte of it is at hand.
 #[derive(Drop)]
-pub struct InSource<L: Sourced> {
+pub struct InSource<L: SourceLedger> {
     of: PhantomData<L>,
 }
 
-impl<L: Sourced> Backing for InSource<L> {
+impl<L: SourceLedger> Backing for InSource<L> {
     ghost grain = { L.grain };
 
     ghost sure = { L.sure };
 }
 
-impl<L: Sourced> InSource<L> {
+impl<L: SourceLedger> InSource<L> {
     pub(crate) fn new() -> InSource<L> {
         InSource { of: PhantomData }
     }
@@ -89,7 +89,7 @@ pub(crate) struct Unread<H: Backing> {
 }
 
 impl<H: Backing> Model for Unread<H> {
-    ghost use Rattle.b3_core.specs.declared.tree.Span.{Span};
+    ghost use Rattle.b3_core.specs.declared.spans.Span.{Span};
 
     ghost Value = { Span };
 

@@ -2,10 +2,10 @@
 
 ghost use Rattle.std.specs.Prelude.{◌≡◌, ◌↔◌, ℕ, List, ◌+◌, ◌<◌, ◌≤◌, ◌^◌, true, [], All, length, map, slice_get, Contains, Err, Some, IfErr, IfNone, IfOk, IfSome, IsOk, IsOkUnless, IsSome, IsTrue, OnErr, OnOk};
 ghost use Rattle.b3_core.specs.Tree.{chunks, top};
-ghost use Rattle.b3_core.specs.declared.tree.Span.{Span};
-ghost use Rattle.b3_board.specs.Pictures.{HasTopsOf, IsAscending, IsDeposit, IsLawful, IsOver, IsOwn, PiecesAreGreatest, begun, opened, piece_spans, size};
+ghost use Rattle.b3_core.specs.declared.spans.Span.{Span};
+ghost use Rattle.b3_board.specs.BoardStates.{HasTopsOf, IsAscending, IsDeposit, IsLawful, IsOver, IsOwn, PiecesAreGreatest, begun, opened, piece_spans, size};
 ghost use Rattle.b3_board.specs.Plans.{IsCutting, IsPlanOf};
-ghost use Rattle.b3_board.specs.Regions.{span_of};
+ghost use Rattle.b3_board.specs.SpanHashers.{span_of};
 ghost use Rattle.b3_board.specs.Shares.{grown};
 ghost use Rattle.b3_board.specs.Spans.{IsRootOf, chunks_in, in_memory};
 ghost use Rattle.b3_board.specs.declared.board.Refused.TheVariants.{NotOpen, OtherBytes};
@@ -14,9 +14,9 @@ ghost use Rattle.b3_board.specs.declared.fault.BoardFault.TheVariants.{Memory};
 use crate::backing::{Backing, InMemory, InSource, Unread};
 use crate::entries::{Entry, KeptNode, count_open, find_open, nth_open, nth_piece, opened};
 use crate::fault::BoardFault;
+use crate::input_ledger::{Extent, InputLedger, OwnDone};
 use crate::jobs::Done;
 use crate::merging::{close_all, close_span, root_of};
-use crate::named::{Extent, Named, OwnDone};
 use crate::plan::Plan;
 use crate::root::Root;
 use crate::share::{Account, Share};
@@ -42,7 +42,7 @@ pub enum Refused<'a> {
 /// tree (BLAKE3 (2020), 2.1), each piece with the node that the standard defines, no two of them siblings,
 /// and their chunks add up to the whole.
 #[derive(Drop)]
-pub struct Board<H: Backing, L: Named> {
+pub struct Board<H: Backing, L: InputLedger> {
     backing: H,
     extent: Extent<L>,
     entries: Vec<Entry>,
@@ -50,11 +50,11 @@ pub struct Board<H: Backing, L: Named> {
     missed: bool,
 }
 
-impl<H: Backing, L: Named> Model for Board<H, L> {
+impl<H: Backing, L: InputLedger> Model for Board<H, L> {
     ghost use Rattle.b3_board.specs.Entries.{KeepsBoard, open_spans, pieces};
-    ghost use Rattle.b3_board.specs.Pictures.{Picture};
+    ghost use Rattle.b3_board.specs.BoardStates.{BoardState};
 
-    ghost Value = { Picture };
+    ghost Value = { BoardState };
 
     ghost view = { λ board. record {
       input = L.input;
@@ -75,7 +75,7 @@ pub type MemoryBoard<'a, L> = Board<InMemory<'a, L>, L>;
 /// A board over an input that is read from a source.
 pub type SourceBoard<L> = Board<InSource<L>, L>;
 
-impl<'a, L: Named> Board<InMemory<'a, L>, L> {
+impl<'a, L: InputLedger> Board<InMemory<'a, L>, L> {
     /// The board of the plan, with all its spans open, and a share with all 128 parts and no chunks.
     ///
     /// It takes all its memory here.
@@ -157,9 +157,9 @@ impl<'a, L: Named> Board<InMemory<'a, L>, L> {
     }
 }
 
-impl<H: Backing, L: Named> Board<H, L> {
-    // The board over the named input, cut into these spans, which are all open, and a share with all 128 parts and no
-    // chunks.
+impl<H: Backing, L: InputLedger> Board<H, L> {
+    // The board over the input that the ledger names, cut into these spans, which are all open, and a share with all
+    // 128 parts and no chunks.
     pub(crate) fn open(
         alloc: Global,
         backing: H,
@@ -219,7 +219,11 @@ impl<H: Backing, L: Named> Board<H, L> {
 
     // Deposits what was made of a span, or keeps in mind that its bytes could not be had. A deposit that is refused
     // changes nothing.
-    pub(crate) fn take_in(&mut self, made: Result<OwnDone<L>, Unread<H>>, share: &mut Share<L>)
+    pub(crate) fn deposit_or_miss(
+        &mut self,
+        made: Result<OwnDone<L>, Unread<H>>,
+        share: &mut Share<L>,
+    )
         ensures parts { share.new.parts ≡ share.old.parts }
         ensures grown { share.new.chunks ≤ share.old.chunks + (span_of made).count }
         ensures lawful { IsLawful self.new }

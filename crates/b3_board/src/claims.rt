@@ -22,9 +22,9 @@ pub struct Claims {
 }
 
 impl Model for Claims {
-    ghost use Rattle.b3_board.specs.Seats.{Indexes};
+    ghost use Rattle.b3_board.specs.Seats.{ClaimsState};
 
-    ghost Value = { Indexes };
+    ghost Value = { ClaimsState };
 
     ghost view = { λ claims. record { count = claims.table.shared.key; table = claims.table.shared.table_id } };
 }
@@ -39,9 +39,10 @@ pub struct Seat {
 }
 
 impl Model for Seat {
-    ghost use Rattle.b3_board.specs.Seats.{KeepsSeat, Seated};
+    ghost use Rattle.b3_board.specs.Seats.{SeatState};
+    ghost use Rattle.b3_board.specs.ClaimRule.{KeepsSeat};
 
-    ghost Value = { Seated };
+    ghost Value = { SeatState };
 
     ghost view = { λ seat. record { view = seat.token.me.0; table = seat.token.table_id } };
 
@@ -67,7 +68,7 @@ impl Seat {
 }
 
 impl Claims {
-    ghost use Rattle.b3_board.specs.Claiming.{has, joined, newcomer, one_if, one_less, one_part, times, tried};
+    ghost use Rattle.b3_board.specs.Claiming.{is_set, joined, newcomer, one_if, one_less, one_part, occurrences, tried};
     ghost use Rattle.b3_board.specs.Seats.{IsSeatOf};
 
     /// Claims on the indexes below n, none of them taken, and the first seat, which has all 128 parts.
@@ -150,7 +151,7 @@ impl Claims {
         requires own { IsSeatOf self seat }
         requires parts { seat.view.parts ≡ 128 }
         ensures list { result.items ≡ seat.view.claimed }
-        ensures once { (i : ℕ) → times i result.items ≡ one_if (has seat.view.seen i) }
+        ensures once { (i : ℕ) → occurrences i result.items ≡ one_if (is_set seat.view.seen i) }
     {
         let Seat {
             mut token,

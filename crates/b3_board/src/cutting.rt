@@ -7,7 +7,7 @@ ghost use Rattle.b3_board.specs.Plans.{IsCutting, IsGrain, grain_spans};
 use b3_core::{Span, is_subtree};
 use std::alloc::{AllocError, Global};
 
-const LEAST_DEFAULT_GRAIN: u64 = 16;
+const MIN_DEFAULT_GRAIN: u64 = 16;
 
 const MAX_GRAIN: u64 = 1 << 20;
 
@@ -26,7 +26,7 @@ pub fn default_grain(n: u64) -> u64
 {
     n.div_ceil(MAX_SPANS)
         .next_power_of_two()
-        .max(LEAST_DEFAULT_GRAIN)
+        .max(MIN_DEFAULT_GRAIN)
 }
 
 // Whether a plan may be cut by the grain.

@@ -1,7 +1,7 @@
 // The entries of a board: one for each span of its cutting, whose places never change.
 
 ghost use Rattle.std.specs.Prelude.{◌≡◌, ◌≢◌, ℕ, ◌<◌, length, map, slice_get, IfOk, IfSome, IfNone};
-ghost use Rattle.b3_core.specs.declared.tree.Span.{Span};
+ghost use Rattle.b3_core.specs.declared.spans.Span.{Span};
 ghost use Rattle.b3_board.specs.Entries.{IsInOrder, at, fresh, open_spans, pieces};
 
 use b3_core::{Node, Span};

@@ -4,23 +4,24 @@ ghost use Rattle.std.specs.Int.{div_ceil};
 ghost use Rattle.std.specs.Prelude.{◌≡◌, ◌⊎◌, ℕ, ◌+◌, ◌*◌, ◌<◌, ◌≤◌, ◌^◌, min, List, length, sum, true, Some, Err, IfErr, IfOk, IfSome, IsSome};
 ghost use Rattle.b3_core.specs.Tree.{chunks};
 ghost use Rattle.b3_board.specs.Faults.{IsGrainFault, IsWorkersFault};
-ghost use Rattle.b3_board.specs.Regions.{IsNamed, region};
+ghost use Rattle.b3_board.specs.Regions.{region};
+ghost use Rattle.b3_board.specs.SpanHashers.{IsSameInput};
 ghost use Rattle.b3_board.specs.Spans.{IsRootOf};
 ghost use Rattle.b3_board.specs.WorkerRuns.{HasEachOnce};
 ghost use Rattle.b3_board.specs.declared.fault.BoardFault.{BoardFault};
 ghost use Rattle.b3_board.specs.declared.fault.BoardFault.TheVariants.{Memory};
 
-use crate::backing::{InSource, Sourced};
+use crate::backing::{InSource, SourceLedger};
 use crate::board::SourceBoard;
 use crate::cutting::{MAX_INPUT, MAX_SPANS, grain_spans, is_grain};
-use crate::dealing::{add_to_first, is_worker_count};
 use crate::fault::BoardFault;
 use crate::gate::Gate;
-use crate::named::Extent;
+use crate::input_ledger::Extent;
 use crate::report::Report;
 use crate::run::run;
 use crate::source::Source;
 use crate::source_plan::SourcePlan;
+use crate::worker_state::{add_to_first, is_worker_count};
 use b3_core::{Mode, chunks};
 use std::alloc::Global;
 use std::marker::Brand;
@@ -33,10 +34,10 @@ use std::thread::Threads;
 /// deposits them as one of [`hash_parallel`] does.
 ///
 /// Refused by the first of `BadWorkers`, `BadGrain`, `TooLarge` and `TooManySpans` that holds, else by `Memory` where a
-/// growth is. None where some span could not be read whole, or where the buffer is shorter than a span; so a source that
-/// is sure of these bytes gives Some. No more workers run than the buffer has spans for. The root is that of one content
-/// of `len` bytes, which is the source's where the source tells it. Nothing is swept: a span that no worker deposited,
-/// though none failed to read it, is read by this call and counted for the first worker.
+/// growth is. None where some span could not be read whole, or where the buffer is shorter than a span; so a source
+/// that is sure of these bytes gives Some. No more workers run than the buffer has spans for. The root is that of one
+/// content of `len` bytes, which is the source's where the source tells it. Nothing is swept: a span that no worker
+/// deposited, though none failed to read it, is read by this call and counted for the first worker.
 pub fn hash_source<R: Threads + Wait + Sync, S: Source + Sync, G: Gate + Sync>(
     rt: &R,
     alloc: Global,
@@ -93,16 +94,21 @@ pub fn hash_source<R: Threads + Wait + Sync, S: Source + Sync, G: Gate + Sync>(
         grain,
         spans,
     };
-    if buffer.len() < plan.longest() {
+    if buffer.len() < plan.max_span_len() {
         return Ok(None);
     }
     // The proof of this call picks what is known of the source, its mode and its first chunk for those that `Brand`
     // names.
-    read_on::<R, Brand, S, G>(rt, alloc, &plan, workers, buffer, gate, Blank::new(128))
+    hash_source_on::<R, Brand, S, G>(rt, alloc, &plan, workers, buffer, gate, Blank::new(128))
 }
 
 // The same on a board whose ledger the blank is.
-fn read_on<R: Threads + Wait + Sync, L: Sourced + Send + Sync, S: Source + Sync, G: Gate + Sync>(
+fn hash_source_on<
+    R: Threads + Wait + Sync,
+    L: SourceLedger + Send + Sync,
+    S: Source + Sync,
+    G: Gate + Sync,
+>(
     rt: &R,
     alloc: Global,
     plan: &SourcePlan<S>,
@@ -114,7 +120,7 @@ fn read_on<R: Threads + Wait + Sync, L: Sourced + Send + Sync, S: Source + Sync,
     requires name { blank.name ≡ L.name }
     requires parts { blank.parts ≡ L.parts }
     requires whole { L.parts ≡ 128 }
-    requires own { IsNamed L.input L.mode L.first L.sure
+    requires own { IsSameInput L.input L.mode L.first L.sure
         (region (S.told plan.now.source.now) plan.now.offset plan.now.len) plan.now.mode plan.now.first
         (S.sure plan.now.source.now (plan.now.offset + plan.now.len)) }
     requires grain { plan.now.grain ≡ L.grain }

@@ -3,7 +3,7 @@
 ghost use Rattle.std.specs.Prelude.{◌≡◌, ℕ, ◌+◌, ◌<◌, ◌≤◌, ◌^◌, ◌↔◌, IsTrue, length};
 ghost use Rattle.b3_core.specs.Nodes.{chaining};
 ghost use Rattle.b3_core.specs.Tree.{chunks, top};
-ghost use Rattle.b3_board.specs.Plans.{Task, hashed};
+ghost use Rattle.b3_board.specs.Plans.{JobState, done_of};
 ghost use Rattle.b3_board.specs.Spans.{part};
 
 use crate::tree::Tree;
@@ -21,9 +21,9 @@ pub struct Job<'a> {
 }
 
 impl<'a> Model for Job<'a> {
-    ghost use Rattle.b3_board.specs.Plans.{Task};
+    ghost use Rattle.b3_board.specs.Plans.{JobState};
 
-    ghost Value = { Task };
+    ghost Value = { JobState };
 
     ghost view = { λ job. record { span = job.span; bytes = job.bytes.now; mode = job.mode; first = job.first } };
 }
@@ -50,7 +50,7 @@ impl<'a> Job<'a> {
 
     /// Hashes the span: its node is the top of its bytes (BLAKE3 (2020), 2.1), at its place in the tree.
     pub fn work(self) -> Done<'a>
-        ensures { result ≡ hashed self.entry }
+        ensures { result ≡ done_of self.entry }
     {
         let node = top(&self.mode, self.first + self.span.first, self.bytes);
         Done {
@@ -80,9 +80,9 @@ pub struct Done<'a> {
 }
 
 impl<'a> Model for Done<'a> {
-    ghost use Rattle.b3_board.specs.Plans.{Hashed};
+    ghost use Rattle.b3_board.specs.Plans.{DoneState};
 
-    ghost Value = { Hashed };
+    ghost Value = { DoneState };
 
     ghost view = { λ done. record {
       span = done.span;

@@ -5,17 +5,17 @@ ghost use Rattle.b3_core.specs.Nodes.{chaining};
 ghost use Rattle.b3_core.specs.Subtrees.{AreSiblings, IsSubtree};
 ghost use Rattle.b3_core.specs.Tree.{chunks, parent_node};
 ghost use Rattle.b3_board.specs.Entries.{ApartBut, IsInOrder, IsJoined, Lawful, NoneOpen, Sound, at, is_kept, joined, kept_chunk, kept_count, open_count, open_span};
-ghost use Rattle.b3_board.specs.Spans.{IsNodeOf, IsRootOf, has};
+ghost use Rattle.b3_board.specs.Spans.{IsNodeOf, IsRootOf, chunk_in};
 ghost use Rattle.b3_board.specs.declared.entries.KeptNode.{KeptNode};
 ghost use Rattle.b3_board.specs.declared.entries.State.TheVariants.{Kept, Open};
 
 use crate::backing::InMemory;
 use crate::entries::{Entry, KeptNode, State, find};
-use crate::named::{Extent, Named};
+use crate::input_ledger::{Extent, InputLedger};
 use b3_core::{Mode, Node, Span, parent_node, sibling};
 
 // The place of the piece that is the sibling of the one at `here`.
-fn partner(entries: &[Entry], n: u64, here: usize) -> Option<usize>
+fn find_sibling(entries: &[Entry], n: u64, here: usize) -> Option<usize>
     requires some { 1 ≤ n }
     requires few { n ≤ 2 ^ 54 }
     requires in_order { IsInOrder entries.now }
@@ -92,7 +92,7 @@ fn join_two(entries: &mut [Entry], mode: &Mode, left: usize, right: usize)
 }
 
 // Joins the piece at `here` and its sibling, and answers where the joined piece is.
-fn join_siblings<L: Named>(
+fn join_siblings<L: InputLedger>(
     entries: &mut [Entry],
     extent: &Extent<L>,
     here: usize,
@@ -121,7 +121,7 @@ fn join_siblings<L: Named>(
 }
 
 // Joins the piece at `from` with its sibling, and what comes of it with its own, as long as there is one.
-fn merge_up<L: Named>(entries: &mut [Entry], extent: &Extent<L>, from: usize)
+fn merge_up<L: InputLedger>(entries: &mut [Entry], extent: &Extent<L>, from: usize)
     requires inside { from < length entries.old }
     requires kept { is_kept (at entries.old from).state ≡ true }
     requires sound { Sound L.input L.mode L.first entries.old }
@@ -133,13 +133,13 @@ fn merge_up<L: Named>(entries: &mut [Entry], extent: &Extent<L>, from: usize)
 {
     let n = extent.size();
     let mut here = from;
-    while let Some(other) = partner(entries, n, here) {
+    while let Some(other) = find_sibling(entries, n, here) {
         here = join_siblings(entries, extent, here, other);
     }
 }
 
 // Closes the open span at `place` with its node, and joins siblings as long as there are any.
-pub(crate) fn close_span<L: Named>(
+pub(crate) fn close_span<L: InputLedger>(
     entries: &mut [Entry],
     extent: &Extent<L>,
     place: usize,
@@ -153,7 +153,7 @@ pub(crate) fn close_span<L: Named>(
     requires lawful { Lawful L.input L.mode L.first entries.old }
     ensures lawful { Lawful L.input L.mode L.first entries.new }
     ensures chunks { (k : ℕ) → sum_by (kept_chunk k) entries.new ≡ sum_by (kept_chunk k) entries.old
-        + has k (at entries.old place).span.first (at entries.old place).span.count }
+        + chunk_in k (at entries.old place).span.first (at entries.old place).span.count }
     ensures count { sum_by kept_count entries.new ≡ sum_by kept_count entries.old + (at entries.old place).span.count }
     ensures opens { map open_span entries.new ≡ slice_set (map open_span entries.old) place None }
 {
@@ -162,7 +162,7 @@ pub(crate) fn close_span<L: Named>(
 }
 
 // Hashes and closes every open span, and answers how many chunks these were.
-pub(crate) fn close_all<L: Named>(
+pub(crate) fn close_all<L: InputLedger>(
     entries: &mut [Entry],
     extent: &Extent<L>,
     backing: &InMemory<'_, L>,
@@ -182,7 +182,7 @@ pub(crate) fn close_all<L: Named>(
 }
 
 // Hashes and closes the span at `place` where it is open, and answers how many chunks were closed.
-fn close_if_open<L: Named>(
+fn close_if_open<L: InputLedger>(
     entries: &mut [Entry],
     extent: &Extent<L>,
     backing: &InMemory<'_, L>,
@@ -213,7 +213,7 @@ fn close_if_open<L: Named>(
 }
 
 // The node of the root, where nothing is open.
-pub(crate) fn root_of<L: Named>(entries: &[Entry], extent: &Extent<L>) -> Option<Node>
+pub(crate) fn root_of<L: InputLedger>(entries: &[Entry], extent: &Extent<L>) -> Option<Node>
     requires { Lawful L.input L.mode L.first entries.now }
     ensures there { IsSome result ↔ NoneOpen entries.now }
     ensures top { IfSome result (λ node. IsRootOf L.input L.mode L.first node) }

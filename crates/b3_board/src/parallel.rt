@@ -9,13 +9,13 @@ ghost use Rattle.b3_board.specs.declared.fault.BoardFault.{BoardFault};
 ghost use Rattle.b3_board.specs.declared.fault.BoardFault.TheVariants.{Memory};
 
 use crate::board::MemoryBoard;
-use crate::dealing::is_worker_count;
 use crate::fault::BoardFault;
 use crate::gate::Gate;
-use crate::named::Named;
+use crate::input_ledger::InputLedger;
 use crate::plan::Plan;
 use crate::report::Report;
 use crate::run::run;
+use crate::worker_state::is_worker_count;
 use std::alloc::Global;
 use std::marker::Brand;
 use std::sync::Wait;
@@ -45,11 +45,11 @@ pub fn hash_parallel<'a, R: Threads + Wait + Sync, G: Gate + Sync>(
         return Err(BoardFault::BadWorkers);
     }
     // The proof of this call picks the plan's input, mode and first chunk for those that `Brand` names.
-    hash_on::<R, Brand, G>(rt, alloc, plan, workers, gate, Blank::new(128))
+    hash_parallel_on::<R, Brand, G>(rt, alloc, plan, workers, gate, Blank::new(128))
 }
 
 // The same on a board whose ledger the blank is.
-fn hash_on<'a, R: Threads + Wait + Sync, L: Named + Send + Sync, G: Gate + Sync>(
+fn hash_parallel_on<'a, R: Threads + Wait + Sync, L: InputLedger + Send + Sync, G: Gate + Sync>(
     rt: &R,
     alloc: Global,
     plan: &Plan<'a>,

@@ -4,15 +4,15 @@ ghost use Rattle.std.specs.Prelude.{◌≡◌, ◌⊎◌, ℕ, ◌+◌, ◌<◌,
 ghost use Rattle.std.specs.Option.{option_map};
 ghost use Rattle.b3_core.specs.Tree.{chunks, top};
 ghost use Rattle.b3_board.specs.Faults.{IsCutFault, IsGrainFault};
-ghost use Rattle.b3_board.specs.Plans.{IsCutting, IsPlanOf, by_grain, task_of};
+ghost use Rattle.b3_board.specs.Plans.{IsCutting, IsPlanOf, by_grain, job_of};
 ghost use Rattle.b3_board.specs.Spans.{chunks_in};
 ghost use Rattle.b3_board.specs.declared.fault.BoardFault.{BoardFault};
 ghost use Rattle.b3_board.specs.declared.fault.BoardFault.TheVariants.{Memory};
 
 use crate::cutting::{MAX_INPUT, MAX_SPANS, grain_spans, is_cutting, is_grain};
 use crate::fault::BoardFault;
+use crate::input_ledger::{InputLedger, OwnDone};
 use crate::jobs::Job;
-use crate::named::{Named, OwnDone};
 use crate::root::Root;
 use crate::tree::Tree;
 use b3_core::{Mode, Span, chunks};
@@ -31,9 +31,9 @@ pub struct Plan<'a> {
 }
 
 impl<'a> Model for Plan<'a> {
-    ghost use Rattle.b3_board.specs.Plans.{Outline};
+    ghost use Rattle.b3_board.specs.Plans.{PlanState};
 
-    ghost Value = { Outline };
+    ghost Value = { PlanState };
 
     ghost view = { λ plan. record {
       input = plan.tree.input.now;
@@ -194,7 +194,7 @@ impl<'a> Plan<'a> {
 
     /// The job of span `i`, or none where the plan has no more than `i` spans.
     pub fn job(&self, i: usize) -> Option<Job<'a>>
-        ensures { result ≡ option_map (task_of self.now) (slice_get self.now.spans i) }
+        ensures { result ≡ option_map (job_of self.now) (slice_get self.now.spans i) }
     {
         let spans = self.spans.as_slice();
         if i < spans.len() {
@@ -204,8 +204,8 @@ impl<'a> Plan<'a> {
         }
     }
 
-    // Hashes a span, for a board over the named input, which is this plan's.
-    pub(crate) fn hash_span<L: Named>(&self, span: Span) -> OwnDone<L>
+    // Hashes a span, for a board over the input that the ledger names, which is this plan's.
+    pub(crate) fn hash_span<L: InputLedger>(&self, span: Span) -> OwnDone<L>
         requires own { IsPlanOf L.input L.mode L.first self.now }
         requires inside { span.first + span.count ≤ chunks L.input.len }
         requires some { 0 < span.count }

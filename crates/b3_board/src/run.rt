@@ -4,20 +4,21 @@ ghost use Rattle.std.specs.Prelude.{◌≡◌, ℕ, ◌+◌, ◌<◌, ◌≤◌,
 ghost use Rattle.b3_core.specs.Tree.{chunks};
 ghost use Rattle.b3_board.specs.Seats.{IsSeatOf};
 ghost use Rattle.b3_board.specs.Spans.{IsRootOf};
-ghost use Rattle.b3_board.specs.WorkerRuns.{HasEachOnce, HasEnded, HasRun, IsNewState, seat_parts, share_parts};
+ghost use Rattle.b3_board.specs.WorkerRuns.{HasEachOnce};
+ghost use Rattle.b3_board.specs.WorkerStates.{HasEnded, HasRun, IsNewState, seat_parts, share_parts};
 ghost use Rattle.b3_board.specs.declared.fault.BoardFault.TheVariants.{Memory};
 
 use crate::backing::Backing;
 use crate::board::Board;
 use crate::claims::Claims;
-use crate::dealing::{Joined, WorkerState, deal, join_up, thread_count};
 use crate::fault::BoardFault;
 use crate::gate::Gate;
-use crate::named::Named;
+use crate::input_ledger::InputLedger;
 use crate::report::Report;
 use crate::root::Root;
 use crate::share::Share;
 use crate::span_hasher::SpanHasher;
+use crate::worker_state::{JoinedWorkers, WorkerState, join_workers, scatter, thread_count};
 use crate::workers::work;
 use std::alloc::Global;
 use std::sync::{Mutex, Wait};
@@ -29,7 +30,7 @@ use std::thread::Threads;
 pub(crate) fn run<
     R: Threads + Wait + Sync,
     H: Backing + Send + Sync,
-    L: Named + Send + Sync,
+    L: InputLedger + Send + Sync,
     C: SpanHasher<H, L> + Sync,
     G: Gate + Sync,
 >(
@@ -74,7 +75,7 @@ pub(crate) fn run<
 fn run_all<
     R: Threads + Wait + Sync,
     H: Backing + Send + Sync,
-    L: Named + Send + Sync,
+    L: InputLedger + Send + Sync,
     C: SpanHasher<H, L> + Sync,
     G: Gate + Sync,
 >(
@@ -86,7 +87,7 @@ fn run_all<
     workers: u32,
     buffer: &mut [u8],
     gate: &G,
-) -> Result<Joined<L>, BoardFault>
+) -> Result<JoinedWorkers<L>, BoardFault>
     requires own { C.is_own hasher.now }
     requires new { (share.parts ≡ 128) × (share.chunks ≡ 0) }
     requires some { 0 < workers }
@@ -100,16 +101,16 @@ fn run_all<
     let spans = hasher.cutting();
     let (claims, mut seat) = Claims::new(alloc, spans.len())?;
     let threads = thread_count(spans.len(), workers, buffer.len(), hasher.buffer_len());
-    let mut states = deal(alloc, &claims, &mut seat, &mut share, threads, buffer)?;
+    let mut states = scatter(alloc, &claims, &mut seat, &mut share, threads, buffer)?;
     run_each(rt, hasher, board, &claims, states.as_mut_slice(), gate);
-    Ok(join_up(claims, spans, seat, share, states, workers as usize))
+    Ok(join_workers(claims, spans, seat, share, states, workers as usize))
 }
 
 // Runs the workers, each in a thread of its own, which lends it its seat and its share.
 fn run_each<
     R: Threads + Wait + Sync,
     H: Backing + Send + Sync,
-    L: Named + Send + Sync,
+    L: InputLedger + Send + Sync,
     C: SpanHasher<H, L> + Sync,
     G: Gate + Sync,
 >(
@@ -157,7 +158,7 @@ fn run_each<
 
 // The root of a board of which no worker has a share any more, and the chunks that none of them deposited, though none
 // gave up a span: these are hashed here. None where the bytes of some span could not be had.
-fn take_root<H: Backing, L: Named, C: SpanHasher<H, L>>(
+fn take_root<H: Backing, L: InputLedger, C: SpanHasher<H, L>>(
     mut board: Board<H, L>,
     hasher: &C,
     buffer: &mut [u8],
@@ -187,7 +188,7 @@ fn take_root<H: Backing, L: Named, C: SpanHasher<H, L>>(
 
 // Hashes and closes every open span; false where the bytes of one could not be had. No run has left one open, but a
 // board behind a lock tells no more than its laws.
-fn hash_open<H: Backing, L: Named, C: SpanHasher<H, L>>(
+fn hash_open<H: Backing, L: InputLedger, C: SpanHasher<H, L>>(
     board: &mut Board<H, L>,
     hasher: &C,
     buffer: &mut [u8],

@@ -33,9 +33,9 @@ pub struct Share<L: Ledger> {
 }
 
 impl<L: Ledger> Model for Share<L> {
-    ghost use Rattle.b3_board.specs.Shares.{Holding};
+    ghost use Rattle.b3_board.specs.Shares.{ShareState};
 
-    ghost Value = { Holding };
+    ghost Value = { ShareState };
 
     ghost view = { λ share. record { parts = share.parts; chunks = share.chunks } };
 }

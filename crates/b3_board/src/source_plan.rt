@@ -4,18 +4,19 @@ ghost use Rattle.std.specs.Prelude.{◌≡◌, ℕ, ◌+◌, ◌-◌, ◌*◌, �
 ghost use Rattle.b3_core.specs.Tree.{chunks};
 ghost use Rattle.b3_board.specs.Plans.{IsCutting};
 ghost use Rattle.b3_board.specs.Spans.{chunks_in};
-ghost use Rattle.b3_board.specs.Regions.{IsMade, IsNamed, region, span_of};
+ghost use Rattle.b3_board.specs.Regions.{region};
+ghost use Rattle.b3_board.specs.SpanHashers.{IsMade, IsSameInput, span_of};
 
-use crate::backing::{InSource, Sourced, Unread};
-use crate::named::OwnDone;
+use crate::backing::{InSource, SourceLedger, Unread};
+use crate::input_ledger::OwnDone;
 use crate::source::Source;
 use crate::span_hasher::SpanHasher;
 use b3_core::{Mode, Span};
 
 const CHUNK_LEN: u64 = b3_core::CHUNK_LEN as u64;
 
-// So many bytes of a source from an offset on, with a mode, the number of their first chunk, and their cutting into spans
-// of no more than `grain` chunks.
+// So many bytes of a source from an offset on, with a mode, the number of their first chunk, and their cutting into
+// spans of no more than `grain` chunks.
 #[derive(Drop)]
 pub(crate) struct SourcePlan<'s, S: Source> {
     pub(crate) source: &'s S,
@@ -37,7 +38,7 @@ pub(crate) struct SourcePlan<'s, S: Source> {
 
 impl<'s, S: Source> SourcePlan<'s, S> {
     // What the buffer for any of the spans takes.
-    pub(crate) fn longest(&self) -> usize
+    pub(crate) fn max_span_len(&self) -> usize
         ensures { result ≡ min (1024 * self.now.grain) self.now.len }
     {
         (CHUNK_LEN * self.grain).min(self.len) as usize
@@ -54,12 +55,12 @@ impl<'s, S: Source> SourcePlan<'s, S> {
     }
 
     // Reads a span into the buffer, and hashes it there.
-    pub(crate) fn read<L: Sourced>(
+    pub(crate) fn read<L: SourceLedger>(
         &self,
         span: Span,
         buffer: &mut [u8],
     ) -> Result<OwnDone<L>, Unread<InSource<L>>>
-        requires own { IsNamed L.input L.mode L.first L.sure
+        requires own { IsSameInput L.input L.mode L.first L.sure
             (region (S.told self.now.source.now) self.now.offset self.now.len) self.now.mode self.now.first
             (S.sure self.now.source.now (self.now.offset + self.now.len)) }
         requires inside { span.first + span.count ≤ chunks self.now.len }
@@ -81,10 +82,10 @@ impl<'s, S: Source> SourcePlan<'s, S> {
     }
 }
 
-impl<'s, S: Source, L: Sourced> SpanHasher<InSource<L>, L> for SourcePlan<'s, S> {
+impl<'s, S: Source, L: SourceLedger> SpanHasher<InSource<L>, L> for SourcePlan<'s, S> {
     ghost spans = { λ plan. plan.spans.items };
 
-    ghost is_own = { λ plan. IsNamed L.input L.mode L.first L.sure
+    ghost is_own = { λ plan. IsSameInput L.input L.mode L.first L.sure
         (region (S.told plan.source.now) plan.offset plan.len) plan.mode plan.first
         (S.sure plan.source.now (plan.offset + plan.len)) };
 
@@ -95,7 +96,7 @@ impl<'s, S: Source, L: Sourced> SpanHasher<InSource<L>, L> for SourcePlan<'s, S>
     }
 
     fn buffer_len(&self) -> usize {
-        self.longest()
+        self.max_span_len()
     }
 
     fn hash(

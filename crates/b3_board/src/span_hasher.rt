@@ -2,18 +2,18 @@
 
 ghost use Rattle.std.specs.Prelude.{◌≡◌, ℕ, ◌+◌, ◌<◌, ◌≤◌, ◌^◌, List, length, IfSome};
 ghost use Rattle.b3_core.specs.Tree.{chunks};
-ghost use Rattle.b3_core.specs.declared.tree.Span.{Span};
+ghost use Rattle.b3_core.specs.declared.spans.Span.{Span};
 ghost use Rattle.b3_board.specs.Plans.{IsCutting, IsPlanOf};
-ghost use Rattle.b3_board.specs.Regions.{IsMade, span_of};
+ghost use Rattle.b3_board.specs.SpanHashers.{IsMade, span_of};
 ghost use Rattle.b3_board.specs.Spans.{chunks_in};
 
 use crate::backing::{Backing, InMemory, Unread};
-use crate::named::{Named, OwnDone};
+use crate::input_ledger::{InputLedger, OwnDone};
 use crate::plan::Plan;
 use b3_core::Span;
 
 // The spans of an input and the work of each: the one point where an input in memory and a source differ.
-pub(crate) trait SpanHasher<H: Backing, L: Named> {
+pub(crate) trait SpanHasher<H: Backing, L: InputLedger> {
     ghost spans: { Self → List Span };
 
     // that they are spans of the input that the board's type names
@@ -43,7 +43,7 @@ pub(crate) trait SpanHasher<H: Backing, L: Named> {
         ensures sure { H.sure → span.count ≤ H.grain → serves self.now (length buffer.old) → IsMade result };
 }
 
-impl<'a, L: Named> SpanHasher<InMemory<'a, L>, L> for Plan<'a> {
+impl<'a, L: InputLedger> SpanHasher<InMemory<'a, L>, L> for Plan<'a> {
     ghost spans = { λ plan. plan.spans };
 
     ghost is_own = { λ plan. IsPlanOf L.input L.mode L.first plan };

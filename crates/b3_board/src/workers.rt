@@ -8,7 +8,7 @@ use crate::backing::Backing;
 use crate::board::{Board, MemoryBoard};
 use crate::claims::{Claims, Seat};
 use crate::gate::Gate;
-use crate::named::Named;
+use crate::input_ledger::InputLedger;
 use crate::plan::Plan;
 use crate::share::Share;
 use crate::span_hasher::SpanHasher;
@@ -29,7 +29,7 @@ pub struct Ended<L: Ledger> {
 ///
 /// Seat and share come back with their old parts; the seat has seen every index, and the share grew by no more than
 /// the chunks of the spans that it newly claimed.
-pub fn worker<'a, R: Wait, L: Named, G: Gate + Sync>(
+pub fn worker<'a, R: Wait, L: InputLedger, G: Gate + Sync>(
     rt: &R,
     plan: &Plan<'a>,
     board: &Mutex<MemoryBoard<'a, L>>,
@@ -53,7 +53,7 @@ pub fn worker<'a, R: Wait, L: Named, G: Gate + Sync>(
 }
 
 // Does job `i` without the lock, passes the gate and deposits under the lock.
-fn work_job<'a, R: Wait, L: Named, G: Gate + Sync>(
+fn work_job<'a, R: Wait, L: InputLedger, G: Gate + Sync>(
     rt: &R,
     plan: &Plan<'a>,
     board: &Mutex<MemoryBoard<'a, L>>,
@@ -76,7 +76,7 @@ fn work_job<'a, R: Wait, L: Named, G: Gate + Sync>(
 
 // The same over the input that the board's type names, whose bytes are not compared, with seat, share and a buffer
 // lent, which saves a run the copies of its workers' lists.
-pub(crate) fn work<R: Wait, H: Backing, L: Named, C: SpanHasher<H, L>, G: Gate + Sync>(
+pub(crate) fn work<R: Wait, H: Backing, L: InputLedger, C: SpanHasher<H, L>, G: Gate + Sync>(
     rt: &R,
     hasher: &C,
     board: &Mutex<Board<H, L>>,
@@ -101,9 +101,9 @@ pub(crate) fn work<R: Wait, H: Backing, L: Named, C: SpanHasher<H, L>, G: Gate +
     }
 }
 
-// Hashes span `i` without the lock, passes the gate and deposits under the lock. A span for which the buffer is too short
-// stays open.
-fn hash_span<R: Wait, H: Backing, L: Named, C: SpanHasher<H, L>, G: Gate + Sync>(
+// Hashes span `i` without the lock, passes the gate and deposits under the lock. A span for which the buffer is too
+// short stays open.
+fn hash_span<R: Wait, H: Backing, L: InputLedger, C: SpanHasher<H, L>, G: Gate + Sync>(
     rt: &R,
     hasher: &C,
     board: &Mutex<Board<H, L>>,
@@ -124,5 +124,5 @@ fn hash_span<R: Wait, H: Backing, L: Named, C: SpanHasher<H, L>, G: Gate + Sync>
     };
     gate.pass(number, i);
     let mut board = board.lock(rt);
-    board.take_in(made, share);
+    board.deposit_or_miss(made, share);
 }

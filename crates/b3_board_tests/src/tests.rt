@@ -5,11 +5,11 @@ ghost use Rattle.b3_board.specs.Plans.{IsPlanOf};
 
 mod claims;
 mod hostile;
-mod meeting;
 mod memory;
 mod open_runs;
 mod plans;
 mod random;
+mod rendezvous;
 mod source;
 mod workers;
 
@@ -55,7 +55,7 @@ fn root_of(rt: &impl Abort, input: &[u8]) -> Node {
 }
 
 // A new board, with a share of all parts.
-fn open_board<'a, L: Named>(
+fn open_board<'a, L: InputLedger>(
     alloc: Global,
     plan: &Plan<'a>,
     blank: Blank,
@@ -69,7 +69,7 @@ fn open_board<'a, L: Named>(
 }
 
 // Does the work of span `i`, and deposits it.
-fn deposit<'a, L: Named>(
+fn deposit<'a, L: InputLedger>(
     rt: &impl Abort,
     board: &mut MemoryBoard<'a, L>,
     share: &mut Share<L>,
@@ -81,17 +81,17 @@ fn deposit<'a, L: Named>(
 }
 
 // Hashes what is open, and answers how many chunks that were.
-fn sweep<'a, L: Named>(board: &mut MemoryBoard<'a, L>, share: &mut Share<L>) -> u64 {
+fn sweep<'a, L: InputLedger>(board: &mut MemoryBoard<'a, L>, share: &mut Share<L>) -> u64 {
     board.sweep(share)
 }
 
 // The deposited chunks, those that are still to be deposited, and those of a share.
-fn counts<'a, L: Named>(board: &MemoryBoard<'a, L>, share: &Share<L>) -> (u64, u64, u64) {
+fn counts<'a, L: InputLedger>(board: &MemoryBoard<'a, L>, share: &Share<L>) -> (u64, u64, u64) {
     (board.deposited(), board.waiting(), share.chunks())
 }
 
 // The root is the top of the whole input, kept by the board.
-fn assert_root<'a, L: Named>(rt: &impl Abort, board: &MemoryBoard<'a, L>, input: &[u8]) {
+fn assert_root<'a, L: InputLedger>(rt: &impl Abort, board: &MemoryBoard<'a, L>, input: &[u8]) {
     let root = board.root().expect(rt, "a root");
     assert!(rt; root.kept());
     assert_eq!(rt; root.node(), root_of(rt, input));
@@ -104,7 +104,11 @@ fn assert_digest(rt: &impl Abort, root: &Root, want: &[u8; 32]) {
     assert_eq!(rt; digest, want.as_slice());
 }
 
-fn assert_pieces<'a, L: Named>(rt: &impl Abort, board: &MemoryBoard<'a, L>, want: &[(u64, u64)]) {
+fn assert_pieces<'a, L: InputLedger>(
+    rt: &impl Abort,
+    board: &MemoryBoard<'a, L>,
+    want: &[(u64, u64)],
+) {
     for i in 0..want.len() {
         let (first, count) = want[i];
         assert_eq!(rt; board.piece(i), Some(span(first, count)), "piece {i}");
@@ -116,7 +120,7 @@ fn assert_pieces<'a, L: Named>(rt: &impl Abort, board: &MemoryBoard<'a, L>, want
 // chunks.
 type Step<'s> = (usize, &'s [(u64, u64)], u64, u64);
 
-fn steps_on<'a, L: Named>(
+fn steps_on<'a, L: InputLedger>(
     rt: &impl Abort,
     alloc: Global,
     plan: &Plan<'a>,
@@ -184,7 +188,7 @@ fn six_chunks_by_the_callers_cutting(rt: HostRuntime) -> Result<(), Fail> {
 }
 
 // Deposits the spans of the plan in this order, and finds the top so many times.
-fn order_on<'a, L: Named>(
+fn order_on<'a, L: InputLedger>(
     rt: &impl Abort,
     alloc: Global,
     plan: &Plan<'a>,
@@ -260,7 +264,7 @@ fn a_plain_root_is_not_kept(rt: HostRuntime) -> Result<(), Fail> {
 }
 
 // The root of a board over a plan of one span.
-fn later_root_on<'a, L: Named>(
+fn later_root_on<'a, L: InputLedger>(
     rt: &impl Abort,
     alloc: Global,
     plan: &Plan<'a>,
@@ -294,7 +298,7 @@ fn a_root_of_a_later_chunk(rt: HostRuntime) -> Result<(), Fail> {
 }
 
 // A share that is dropped takes its part and its chunks with it; the board has them all the same.
-fn shares_on<'a, L: Named>(
+fn shares_on<'a, L: InputLedger>(
     rt: &impl Abort,
     alloc: Global,
     plan: &Plan<'a>,

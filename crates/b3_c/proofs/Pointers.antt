@@ -18,10 +18,10 @@ use denote.RawPtr.{block_ptr, lies_at}
 use denote.Ref.{MutRef, ShrRef}
 use Rattle.b3_hash.proofs.hasher.Hasher.TheLaws.{the_row_laws}
 use Rattle.b3_hash.specs.contracts.Hasher.{the_row as HasherRow}
-use Rattle.b3_hash.specs.Hashers.{State}
+use Rattle.b3_hash.specs.Hashers.{HasherState}
 
 -- a hasher whose machine value was written to memory lies there
-pub placed : {M : Type 1} {𝓤 : Ura M} (𝓛 : Logic 𝓤) (t : State) (v : Val) (b o : ℕ)
+pub placed : {M : Type 1} {𝓤 : Ura M} (𝓛 : Logic 𝓤) (t : HasherState) (v : Val) (b o : ℕ)
     → ent 𝓤 (sep 𝓤 (sem 𝓛 (fat full_share (lone HasherRow.mir) b o v)) (sem 𝓛 (HasherRow.own_val t (v ∷ []))))
     (sem 𝓛 (lies_at HasherRow full_share (block_ptr b o) t))
 unfolding part_of
@@ -34,7 +34,7 @@ placed 𝓛 t v b o =
 module _ {M : Type 1} {𝓤 : Ura M} {𝓛 : Logic 𝓤} {K : Type 0} {Γ : List (Item 𝓤)} {G : Goal 𝓤 𝓛.H} where
   -- a hasher is lent as a `&mut`, for a lifetime α that is made for one call: the loan, the lender's part, and the
   -- token of α
-  pub lends : K → Soaks G → (s : State) (b o : ℕ)
+  pub lends : K → Soaks G → (s : HasherState) (b o : ℕ)
       → ((α γ : ℕ) → Seq K 𝓛
       (‵ ((MutRef (named 0) (α ∷ []) HasherRow).own_val (record { ref_ptr = (b, o); ghost_name = γ; now = s }) (vptr b o ∷ []))
       ∷ ‵ (flent (α ∷ []) (Body (mem HasherRow) b o γ)) ∷ ‵ (flft (α ∷ []) full_share) ∷ Γ) G)
@@ -47,7 +47,7 @@ module _ {M : Type 1} {𝓤 : Ura M} {𝓛 : Logic 𝓤} {K : Type 0} {Γ : List
       (lends_ref 𝓛 HasherRow (named 0) (α ∷ []) s b o) $ await t z $ pick t (λ γ. split t $ k α γ))
 
   -- once α is over, it lies there again, at the loan's last value
-  pub comes_back : K → Soaks G → (α γ : ℕ) (s : State) (b o : ℕ)
+  pub comes_back : K → Soaks G → (α γ : ℕ) (s : HasherState) (b o : ℕ)
       → Step K 𝓛 (‵ (lies_at HasherRow full_share (block_ptr b o) s) ∷ Γ) G
       (‵ (fdead (α ∷ [])) ∷ ‵ (flent (α ∷ []) (Body (mem HasherRow) b o γ)) ∷ ‵ (fres γ (HasherRow.coded.code s)) ∷ Γ) G
   comes_back t z α γ s b o = step (λ rest.
@@ -55,7 +55,7 @@ module _ {M : Type 1} {𝓤 : Ura M} {𝓛 : Logic 𝓤} {K : Type 0} {Γ : List
       await t z $ rest)
 
   -- a hasher is lent as a `&`, likewise; `lent_back` gives it back
-  pub lends_shared : K → Soaks G → (s : State) (b o : ℕ)
+  pub lends_shared : K → Soaks G → (s : HasherState) (b o : ℕ)
       → ((α : ℕ) → Seq K 𝓛
       (‵ ((ShrRef (named 0) (α ∷ []) HasherRow).own_val (record { ref_ptr = (b, o); now = s }) (vptr b o ∷ []))
       ∷ ‵ (flent (α ∷ []) (part_at HasherRow full_share s b o)) ∷ ‵ (flft (α ∷ []) full_share) ∷ Γ) G)

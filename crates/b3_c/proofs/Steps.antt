@@ -34,4 +34,4 @@ pub use denote.Triple.Spec.{triple_of}
 pub use denote.Triple.Walked.{Stays, walk_of, says, stay_dropped, gave_slice, Goes-dropped, Goes-gave_slice, ends_at}
 pub use denote.Triple.Table.{framed}
 pub use Rattle.b3_hash.specs.contracts.Hasher.{the_row as HasherRow}
-pub use Rattle.b3_hash.specs.Hashers.{State}
+pub use Rattle.b3_hash.specs.Hashers.{HasherState}

@@ -10,7 +10,7 @@ ghost use Rattle.std.specs.Ptr.{lies_at, room_at};
 ghost use Rattle.b3_c.specs.Calls.{IsAppended, IsNew, IsOutput};
 ghost use Rattle.b3_core.specs.Modes.{hash_mode, keyed_mode};
 ghost use Rattle.b3_hash.specs.Derivation.{derived_mode};
-ghost use Rattle.b3_hash.specs.Hashers.{State, mode_of};
+ghost use Rattle.b3_hash.specs.Hashers.{HasherState, mode_of};
 ghost use Rattle.b3_hash.specs.contracts.Hasher.{the_row as HasherRow};
 
 mod calls;
@@ -37,7 +37,8 @@ const _: () = prove!(align_of::<Hasher>() == align_of::<Storage>());
 #[unsafe(no_mangle)]
 pub unsafe extern "C" fn blake3_hasher_init(hasher: *mut Storage)
     requires* room { sem 𝓛 (room_at HasherRow hasher) }
-    ensures* made { ∃ₛ (λ (made : State). sem 𝓛 (lies_at HasherRow full_share hasher made) ∗ ⌜ IsNew hash_mode made ⌝) }
+    ensures* made { ∃ₛ (λ (made : HasherState). sem 𝓛 (lies_at HasherRow full_share hasher made)
+        ∗ ⌜ IsNew hash_mode made ⌝) }
 {
     std::ptr::write(hasher as *mut Hasher, plain_hasher());
 }
@@ -46,7 +47,7 @@ pub unsafe extern "C" fn blake3_hasher_init(hasher: *mut Storage)
 #[unsafe(no_mangle)]
 pub unsafe extern "C" fn blake3_hasher_init_keyed(hasher: *mut Storage, key: &[u8; 32])
     requires* room { sem 𝓛 (room_at HasherRow hasher) }
-    ensures* made { ∃ₛ (λ (made : State). sem 𝓛 (lies_at HasherRow full_share hasher made)
+    ensures* made { ∃ₛ (λ (made : HasherState). sem 𝓛 (lies_at HasherRow full_share hasher made)
         ∗ ⌜ IsNew (keyed_mode key.now) made ⌝) }
 {
     std::ptr::write(hasher as *mut Hasher, keyed_hasher(key));
@@ -56,7 +57,7 @@ pub unsafe extern "C" fn blake3_hasher_init_keyed(hasher: *mut Storage, key: &[u
 #[unsafe(no_mangle)]
 pub unsafe extern "C" fn blake3_hasher_init_derive_key_raw(hasher: *mut Storage, context: &[u8])
     requires* room { sem 𝓛 (room_at HasherRow hasher) }
-    ensures* made { ∃ₛ (λ (made : State). sem 𝓛 (lies_at HasherRow full_share hasher made)
+    ensures* made { ∃ₛ (λ (made : HasherState). sem 𝓛 (lies_at HasherRow full_share hasher made)
         ∗ ⌜ IsNew (derived_mode context.now) made ⌝) }
 {
     std::ptr::write(hasher as *mut Hasher, deriving_hasher(context));
@@ -65,9 +66,9 @@ pub unsafe extern "C" fn blake3_hasher_init_derive_key_raw(hasher: *mut Storage,
 /// Takes in the next bytes of the input; none where the input would then have 2^64 bytes or more.
 #[unsafe(no_mangle)]
 pub unsafe extern "C" fn blake3_hasher_update(hasher: *mut Storage, input: &[u8])
-    ghost before: { State }
+    ghost before: { HasherState }
     requires* hasher { sem 𝓛 (lies_at HasherRow full_share hasher before) }
-    ensures* appended { ∃ₛ (λ (after : State). sem 𝓛 (lies_at HasherRow full_share hasher after)
+    ensures* appended { ∃ₛ (λ (after : HasherState). sem 𝓛 (lies_at HasherRow full_share hasher after)
         ∗ ⌜ IsAppended before input.now after ⌝) }
 {
     append(&mut *(hasher as *mut Hasher), input);
@@ -76,9 +77,9 @@ pub unsafe extern "C" fn blake3_hasher_update(hasher: *mut Storage, input: &[u8]
 /// Starts over, with an input in the same mode of which no bytes have come.
 #[unsafe(no_mangle)]
 pub unsafe extern "C" fn blake3_hasher_reset(hasher: *mut Storage)
-    ghost before: { State }
+    ghost before: { HasherState }
     requires* hasher { sem 𝓛 (lies_at HasherRow full_share hasher before) }
-    ensures* new { ∃ₛ (λ (after : State). sem 𝓛 (lies_at HasherRow full_share hasher after)
+    ensures* new { ∃ₛ (λ (after : HasherState). sem 𝓛 (lies_at HasherRow full_share hasher after)
         ∗ ⌜ IsNew (mode_of before) after ⌝) }
 {
     start_over(&mut *(hasher as *mut Hasher));
@@ -87,7 +88,7 @@ pub unsafe extern "C" fn blake3_hasher_reset(hasher: *mut Storage)
 /// Writes the first bytes of the output of the input so far. The hasher stays as it is, and can go on.
 #[unsafe(no_mangle)]
 pub unsafe extern "C" fn blake3_hasher_finalize(hasher: *const Storage, out: &mut [u8])
-    ghost state: { State }
+    ghost state: { HasherState }
     requires* hasher { sem 𝓛 (lies_at HasherRow full_share hasher state) }
     ensures* unchanged { sem 𝓛 (lies_at HasherRow full_share hasher state) }
     ensures output { IsOutput state 0 out.old out.new }
@@ -102,7 +103,7 @@ pub unsafe extern "C" fn blake3_hasher_finalize_seek(
     seek: u64,
     out: &mut [u8],
 )
-    ghost state: { State }
+    ghost state: { HasherState }
     requires* hasher { sem 𝓛 (lies_at HasherRow full_share hasher state) }
     ensures* unchanged { sem 𝓛 (lies_at HasherRow full_share hasher state) }
     ensures output { IsOutput state seek out.old out.new }

@@ -15,7 +15,8 @@ use Rattle.b3_check.specs.declared.tally.Tally.{Tally}
 use Rattle.b3_check.specs.Checks.{Entry, decoded, entry_of, line_script, line_scripts, list_script, lists_script, verdict_on, verdict_report}
 use Rattle.b3_check.specs.Digests.{line_range}
 use Rattle.b3_check.specs.Reading.{Answered}
-use Rattle.b3_check.specs.Runs.{Broke, Ran, Runs, Scene, Stopped, Went}
+use Rattle.b3_check.specs.Runs.{Broke, Ran, IoState, Stopped, Went}
+use Rattle.b3_check.specs.Devices.{Runs}
 use Rattle.b3_check.specs.Scripts.{Answer, Kind, Report, Script, followed_by, in_turn, then_counted}
 use Rattle.b3_check.specs.Scripts.Script.{Ask, Done, Say}
 use Rattle.b3_check.specs.Tallies.{no_tally, tally_sum}
@@ -57,14 +58,14 @@ entry_of-read line digest name shown reads =
 -- ---- lists
 
 -- a name is answered, and then a run
-pub runs_answered : {a b : Scene} {kind : Kind} {name : List ℕ} (limits : Limits) (c : Scene)
+pub runs_answered : {a b : IoState} {kind : Kind} {name : List ℕ} (limits : Limits) (c : IoState)
     (result : Result Tally RunFault) (next : Answer → Script) (answer : Answer)
     → Answered kind name answer a b → Runs limits (next answer) b c result → Runs limits (Ask kind name next) a c result
 runs_answered limits c (Ok tally) next answer answered run = ran_answered next answer answered run
 runs_answered limits c (Err fault) next answer answered run = stopped_answered next answer answered run
 
 -- one more list is run
-pub lists_more : {X : Type 0} {a b c : Scene} {m n : Tally} (view : X → List ℕ) (options : CheckOptions)
+pub lists_more : {X : Type 0} {a b c : IoState} {m n : Tally} (view : X → List ℕ) (options : CheckOptions)
     (xs : List X) (i : ℕ) (x : X)
     → i < length xs → x ≡ get_or xs i x → Ran (lists_script options (map view (take i xs))) a b m
     → Ran (list_script options (view x)) b c n
@@ -82,7 +83,7 @@ lists_more {X} {a} {b} {c} {m} {n} view options xs i x within is first second =
     rw script (ran_then first second)
 
 -- a run stops at a list
-pub lists_stopped : {X : Type 0} {limits : Limits} {a b c : Scene} {m : Tally} {fault : RunFault} (view : X → List ℕ)
+pub lists_stopped : {X : Type 0} {limits : Limits} {a b c : IoState} {m : Tally} {fault : RunFault} (view : X → List ℕ)
     (options : CheckOptions) (xs : List X) (i : ℕ) (x : X)
     → i < length xs → x ≡ get_or xs i x → Ran (lists_script options (map view (take i xs))) a b m
     → Stopped limits (list_script options (view x)) b c fault
@@ -105,7 +106,7 @@ lists_stopped {X} {limits} {a} {b} {c} {m} {fault} view options xs i x within is
 -- ---- what is said after a run, by what was counted in it
 
 -- it comes after all
-pub ran_summed : {s : Script} {a b c : Scene} {m n : Tally} (says : Tally → Report) (said : Report) → Ran s a b m
+pub ran_summed : {s : Script} {a b c : IoState} {m n : Tally} (says : Tally → Report) (said : Report) → Ran s a b m
     → said ≡ says m → Went b c [] said → n ≡ tally_sum m said.tally
     → Ran (then_counted s no_tally (λ tally. Say (says tally) Done)) a c n
 ran_summed {s} {a} {b} {c} {m} {n} says said ran is went sum =
@@ -117,7 +118,7 @@ ran_summed {s} {a} {b} {c} {m} {n} says said ran is went sum =
     (ran_then_counted no_tally (λ tally. Say (says tally) Done) ran summed)
 
 -- a sink fails in it
-pub stopped_summing : {limits : Limits} {s : Script} {a b c : Scene} {m : Tally} {fault : RunFault}
+pub stopped_summing : {limits : Limits} {s : Script} {a b c : IoState} {m : Tally} {fault : RunFault}
     (says : Tally → Report) (said : Report)
     → Ran s a b m → said ≡ says m
     → Broke b c [] said fault → (fault ≡ WriteFault) ⊎ (fault ≡ Memory)
@@ -130,7 +131,7 @@ stopped_summing {limits} {s} {a} {b} {c} {m} {fault} says said ran is broke know
     ran_then_counted_stopped no_tally (λ tally. Say (says tally) Done) ran stopped
 
 -- there is no memory for it
-pub stopped_unsummed : {limits : Limits} {s : Script} {a b : Scene} {m : Tally} {fault : RunFault}
+pub stopped_unsummed : {limits : Limits} {s : Script} {a b : IoState} {m : Tally} {fault : RunFault}
     (says : Tally → Report)
     → Ran s a b m → fault ≡ Memory
     → Stopped limits (then_counted s no_tally (λ tally. Say (says tally) Done)) a b fault

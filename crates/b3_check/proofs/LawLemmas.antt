@@ -11,16 +11,16 @@ use Rattle.std.proofs.lemmas.Slice.Eq.{bytes_eq-Decides}
 use Rattle.hex.specs.Hex.{IsBytes}
 use Rattle.b3_core.specs.Modes.{hash_mode}
 use Rattle.b3_core.specs.Nodes.{output_block}
-use Rattle.b3_core.specs.Output.{output_bytes, stream}
+use Rattle.b3_core.specs.Output.{output_byte, output_bytes}
 use Rattle.b3_core.specs.Tree.{top}
 use Rattle.b3_core.specs.Words.{bytes_of}
 use Rattle.b3_core.specs.declared.nodes.Node.{Node}
 use Rattle.b3_core.proofs.OutputBytes.{length-output_bytes}
-use Rattle.b3_lines.specs.Lines.{HasNoFeed, lines_of}
+use Rattle.b3_lines.specs.Lines.{HasNoLineFeed, lines_of}
 use Rattle.b3_lines.specs.Reading.{first_refusal}
 use Rattle.b3_lines.specs.Writing.{plain_text, shown, tagged_text}
 use Rattle.b3_lines.proofs.LinesOf.{lines_of-line, lines_of-nil}
-use Rattle.b3_lines.proofs.OneLine.{HasNoFeed-plain, HasNoFeed-tagged}
+use Rattle.b3_lines.proofs.OneLine.{HasNoLineFeed-plain, HasNoLineFeed-tagged}
 use Rattle.b3_lines.proofs.Outcomes.{SaysAs-from_IsReadAs}
 use Rattle.b3_lines.proofs.ReadBack.{Reads-plain, ReadsTagged-tagged}
 use Rattle.b3_check.specs.declared.fault.RunFault.{RunFault}
@@ -36,8 +36,8 @@ use Rattle.b3_check.specs.declared.tally.Tally.{Tally}
 use Rattle.b3_check.specs.Contents.{Contents}
 use Rattle.b3_check.specs.Checks.{Entry, check_script, line_script, line_scripts, lines_script, list_end_script, verdict_on, verdict_report, warning, warning_script}
 use Rattle.b3_check.specs.Digests.{digest_of, digest_script, line_range}
-use Rattle.b3_check.specs.Laws.{AsksAll, AsksDigests, File, IsThere, Knows, Says, Wrote, all_ok, counted_over, digest, line_of, ok_of, oks_of, sums_of, tally_of, verdict, verdict_line, verdict_over, verdicts_on, words_of}
-use Rattle.b3_check.specs.Runs.{RanFrom, RanSurely, RanSurelyOver, Scene, scene}
+use Rattle.b3_check.specs.Laws.{AsksAll, AsksDigests, File, IsThere, IsReliable, Says, Wrote, all_ok, counted_over, digest, line_of, ok_of, oks_of, sums_of, tally_of, verdict, verdict_line, verdict_over, verdicts_on, words_of}
+use Rattle.b3_check.specs.Runs.{RanFrom, RanSurely, RanSurelyOver, IoState, io_state}
 use Rattle.b3_check.specs.Scripts.{Report, Script, answer_of, followed_by, in_turn, joined, report_from, then_counted}
 use Rattle.b3_check.specs.Scripts.Kind.{Hashed, Listed}
 use Rattle.b3_check.specs.Scripts.Script.{Ask, Done, Fail, Say}
@@ -220,7 +220,7 @@ IsBytes-output_bytes : (node : Node) (from len : ℕ) → IsBytes (output_bytes 
 unfolding output_bytes
 IsBytes-output_bytes node from len i = elim (cases_lt i len) [
   | inl within ↦
-      rw (get_or-map-range_with_len (stream node) from len i (from + i) 0 within refl)
+      rw (get_or-map-range_with_len (output_byte node) from len i (from + i) 0 within refl)
       (IsBytes-output_block node ((from + i) / 64) ((from + i) % 64))
   | inr past ↦
       rw (get_or_past (output_bytes node from len) i 0 (omega (arith, length-output_bytes node from len))) (omega arith)
@@ -236,7 +236,7 @@ entry_of file = record { digest = digest file.content; name = file.name; shown =
 record IsLineOf (form : Form) (file : File) : Type 0 where
   text : List ℕ
   is : line_of form file ≡ text ++ 10 ∷ []
-  one : HasNoFeed text
+  one : HasNoLineFeed text
   says : Says text (entry_of file)
 
 line_of-form : (form : Form) (contents : Contents) (file : File) → shows_name form ≡ true → IsThere contents file
@@ -246,7 +246,7 @@ line_of-form Named contents file shows there =
     record {
       text = plain_text (digest file.content) file.name;
       is = refl;
-      one = HasNoFeed-plain (digest file.content) file.name;
+      one = HasNoLineFeed-plain (digest file.content) file.name;
       says = inl (Reads-plain (digest file.content) file.name (length-output_bytes root 0 32)
           (IsBytes-output_bytes root 0 32) there.is_named there.is_lawful there.is_text);
     }
@@ -257,7 +257,7 @@ line_of-form Tagged contents file shows there =
     record {
       text = tagged_text (digest file.content) file.name;
       is = refl;
-      one = HasNoFeed-tagged (digest file.content) file.name;
+      one = HasNoLineFeed-tagged (digest file.content) file.name;
       says = inr (ReadsTagged-tagged (digest file.content) file.name (length-output_bytes root 0 32)
           (IsBytes-output_bytes root 0 32) there.is_named there.is_lawful there.is_text);
     }
@@ -311,9 +311,9 @@ report_from-sums asked form contents list files asks shows has is =
 -- ---- a run over known contents
 
 -- a run that is sure says what its script says over the contents
-wrote_from : (told : Option Contents) (sure : Bool) (contents : Contents) (script : Script) (a b : Scene)
+wrote_from : (told : Option Contents) (sure : Bool) (contents : Contents) (script : Script) (a b : IoState)
     (tally : Tally) (said : Report)
-    → Knows told sure contents → report_from contents script ≡ said → RanSurelyOver told sure script a b tally
+    → IsReliable told sure contents → report_from contents script ≡ said → RanSurelyOver told sure script a b tally
     → Wrote said a.out.held b.out.held a.err.held b.err.held tally
 wrote_from told sure contents script a b tally said knows is ran =
     let from : RanFrom contents script a b tally = rw (knows.0, knows.1) at ran in
@@ -321,10 +321,10 @@ wrote_from told sure contents script a b tally said knows is ran =
 
 pub wrote_surely : {S O E : Type 0} (s : ShelfWords S) (o : SinkWords O) (e : SinkWords E) (contents : Contents)
     (script : Script) (shelf shelf₂ : S) (out out₂ : O) (err err₂ : E) (result : Result Tally RunFault) (said : Report)
-    → Knows (s.told shelf) (s.is_sure shelf) contents → report_from contents script ≡ said
-    → IfOk result (λ tally. RanSurely script (scene s o e shelf out err) (scene s o e shelf₂ out₂ err₂) tally)
+    → IsReliable (s.told shelf) (s.is_sure shelf) contents → report_from contents script ≡ said
+    → IfOk result (λ tally. RanSurely script (io_state s o e shelf out err) (io_state s o e shelf₂ out₂ err₂) tally)
     → IfOk result (λ tally. Wrote said (o.held out) (o.held out₂) (e.held err) (e.held err₂) tally)
 wrote_surely s o e contents script shelf shelf₂ out out₂ err err₂ (Ok tally) said knows is ran =
-    wrote_from (s.told shelf) (s.is_sure shelf) contents script (scene s o e shelf out err)
-    (scene s o e shelf₂ out₂ err₂) tally said knows is ran
+    wrote_from (s.told shelf) (s.is_sure shelf) contents script (io_state s o e shelf out err)
+    (io_state s o e shelf₂ out₂ err₂) tally said knows is ran
 wrote_surely s o e contents script shelf shelf₂ out out₂ err err₂ (Err fault) said knows is ran = tt

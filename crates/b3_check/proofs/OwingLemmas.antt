@@ -8,7 +8,7 @@ use Rattle.b3_check.specs.declared.fault.RunFault.{RunFault}
 use Rattle.b3_check.specs.declared.fault.RunFault.TheVariants.{ReadFault, WriteFault, Memory, BadKey, EndlessInput}
 use Rattle.b3_check.specs.Contents.{Contents}
 use Rattle.b3_check.specs.Owing.{RanOwing, WentOwing, on_out, with_out}
-use Rattle.b3_check.specs.Runs.{Broke, GainsPart, IsCausedBy, Ran, Scene, Stopped, Went}
+use Rattle.b3_check.specs.Runs.{Broke, GainsPart, IsCausedBy, Ran, IoState, Stopped, Went}
 use Rattle.b3_check.specs.Scripts.{Answer, Report, Script, AnswersFirst, followed_by, joined, report}
 use Rattle.b3_check.specs.Scripts.Script.{Done, Say}
 use Rattle.b3_check.specs.Tallies.{no_tally, tally_sum}
@@ -18,7 +18,7 @@ use Rattle.b3_check.proofs.ScriptLemmas.{AnswersFirst-append, IsComplete-append,
 
 -- ---- runs of one step
 
-pub owing_done : (a : Scene) → RanOwing Done a a [] [] no_tally
+pub owing_done : (a : IoState) → RanOwing Done a a [] [] no_tally
 owing_done a = record {
   answers = [];
   agree = tt;
@@ -28,7 +28,7 @@ owing_done a = record {
 }
 
 -- what a script gives is found, and said
-pub owing_found : {script : Script} {a b c : Scene} {u v : List ℕ} {message : Message}
+pub owing_found : {script : Script} {a b c : IoState} {u v : List ℕ} {message : Message}
     → Found script a b message → WentOwing b c u v [] (report_of message) → RanOwing script a c u v message.tally
 owing_found {script} {a} {b} {c} {u} {v} {message} found went =
     let said = with_out went.written (report_of message) in
@@ -47,7 +47,7 @@ owing_found {script} {a} {b} {c} {u} {v} {message} found went =
     }
 
 -- a sink fails in the saying
-pub stopped_found : {limits : Limits} {script : Script} {a b c : Scene} {u : List ℕ} {fault : RunFault}
+pub stopped_found : {limits : Limits} {script : Script} {a b c : IoState} {u : List ℕ} {fault : RunFault}
     {message : Message}
     → Found script a b message → Broke b c [] (joined (on_out u) (report_of message)) fault
     → (fault ≡ WriteFault) ⊎ (fault ≡ Memory) → Stopped limits (Say (on_out u) script) a c fault
@@ -83,7 +83,7 @@ caused_said told limits p s xs BadKey cause = cause
 caused_said told limits p s xs EndlessInput cause = cause
 
 -- a run stops that has written nothing: what is owed was not written either
-pub stopped_owing : {limits : Limits} {s : Script} {a b : Scene} {fault : RunFault} (u : List ℕ)
+pub stopped_owing : {limits : Limits} {s : Script} {a b : IoState} {fault : RunFault} (u : List ℕ)
     → Stopped limits s a b fault → b.out ≡ a.out → Stopped limits (Say (on_out u) s) a b fault
 stopped_owing {limits} {s} {a} {b} {fault} u stopped same =
     let broke = stopped.broke in
@@ -99,7 +99,7 @@ stopped_owing {limits} {s} {a} {b} {fault} u stopped same =
       cause = caused_said a.told limits (on_out u) s stopped.answers fault stopped.cause;
     }
 
-went_owing_then : {a b c : Scene} {u v w : List ℕ} {xs ys : List Answer} {p q : Report}
+went_owing_then : {a b c : IoState} {u v w : List ℕ} {xs ys : List Answer} {p q : Report}
     → WentOwing a b u v xs p → WentOwing b c v w ys q → WentOwing a c u w (xs ++ ys) (joined p q)
 went_owing_then {a} {b} {c} {u} {v} {w} {xs} {ys} {p} {q} first second = record {
   written = first.written ++ second.written;
@@ -109,7 +109,7 @@ went_owing_then {a} {b} {c} {u} {v} {w} {xs} {ys} {p} {q} first second = record 
   went = went_then first.went second.went;
 }
 
-pub owing_then : {s t : Script} {a b c : Scene} {u v w : List ℕ} {m n : Tally}
+pub owing_then : {s t : Script} {a b c : IoState} {u v w : List ℕ} {m n : Tally}
     → RanOwing s a b u v m → RanOwing t b c v w n → RanOwing (followed_by s t) a c u w (tally_sum m n)
 owing_then {s} {t} {a} {b} {c} {u} {v} {w} {m} {n} first second =
     let heard = first.went.went.heard in
@@ -127,7 +127,7 @@ owing_then {s} {t} {a} {b} {c} {u} {v} {w} {m} {n} first second =
     })
 
 -- what is owed comes first in what follows, and a beginning of all that was taken
-broke_owing : {a b c : Scene} {v : List ℕ} {xs ys : List Answer} {p : Report} {fault : RunFault} (q : Report)
+broke_owing : {a b c : IoState} {v : List ℕ} {xs ys : List Answer} {p : Report} {fault : RunFault} (q : Report)
     → WentOwing a b [] v xs p → Broke b c ys (joined (on_out v) q) fault → Broke a c (xs ++ ys) (joined p q) fault
 broke_owing {a} {b} {c} {v} {xs} {ys} {p} {fault} q first second =
     let both = went_then_broke first.went second in
@@ -140,7 +140,7 @@ broke_owing {a} {b} {c} {v} {xs} {ys} {p} {fault} q first second =
       sinks = both.sinks;
     }
 
-pub owing_stopped : {limits : Limits} {s t : Script} {a b c : Scene} {v : List ℕ} {m : Tally} {fault : RunFault}
+pub owing_stopped : {limits : Limits} {s t : Script} {a b c : IoState} {v : List ℕ} {m : Tally} {fault : RunFault}
     → RanOwing s a b [] v m → Stopped limits (Say (on_out v) t) b c fault → Stopped limits (followed_by s t) a c fault
 owing_stopped {limits} {s} {t} {a} {b} {c} {v} {m} {fault} first second =
     let heard = first.went.went.heard in
@@ -159,7 +159,7 @@ owing_stopped {limits} {s} {t} {a} {b} {c} {v} {m} {fault} first second =
     })
 
 -- what is owed is written
-pub owing_written : {s : Script} {a b c : Scene} {v : List ℕ} {m : Tally}
+pub owing_written : {s : Script} {a b c : IoState} {v : List ℕ} {m : Tally}
     → RanOwing s a b [] v m → Went b c [] (on_out v) → Ran s a c m
 owing_written {s} {a} {b} {c} {v} {m} first written =
     let xs = first.answers in

@@ -10,7 +10,7 @@ use Rattle.b3_board.specs.Spans.{IsRootOf}
 use Rattle.b3_core.specs.Tree.{top}
 use Rattle.b3_core.specs.declared.modes.Mode.{Mode}
 use Rattle.b3_core.specs.declared.nodes.Node.{Node}
-use Rattle.b3_hash.specs.Hashers.{StandsFor, State, length_of, mode_of}
+use Rattle.b3_hash.specs.Hashers.{HasherState, StandsFor, length_of, mode_of}
 use Rattle.b3_hash.proofs.Standing.{length-StandsFor}
 use Rattle.b3_check.specs.Contents.{Contents}
 use Rattle.b3_check.specs.Parts.{HasHashed, IsPartOf}
@@ -55,7 +55,7 @@ take_two n m xs len =
     ∙ take-append-add (take n xs) (drop n xs) m
 
 -- what the hasher stands for, and a part behind it
-both_told : {told : Option Contents} {left : List ℕ} {mode : Mode} {hasher : State} {len : ℕ} {node : Node}
+both_told : {told : Option Contents} {left : List ℕ} {mode : Mode} {hasher : HasherState} {len : ℕ} {node : Node}
     (held : HasHashed told left mode hasher) (part : IsPartOf told left mode (length_of hasher) len node)
     → IsSome told → held.before ++ part.bytes ≡ take (length_of hasher + len) left
 both_told {told} {left} {mode} {hasher} {len} {node} held part is_told =
@@ -65,7 +65,7 @@ both_told {told} {left} {mode} {hasher} {len} {node} held part is_told =
     ∙ sym (take_two (length_of hasher) len left (sym (ap (λ (xs : List ℕ). length xs) first) ∙ at))
 
 -- a region more
-pub pushed : {told : Option Contents} {left : List ℕ} {mode : Mode} {hasher after : State} {node : Node}
+pub pushed : {told : Option Contents} {left : List ℕ} {mode : Mode} {hasher after : HasherState} {node : Node}
     → HasHashed told left mode hasher → IsPartOf told left mode (length_of hasher) REGION_LEN node
     → ((before window : List ℕ) → StandsFor hasher before → length window ≡ 1024 * 2 ^ REGION_LEVEL
     → node ≡ top (mode_of hasher) (length before / 1024) window → StandsFor after (before ++ window))
@@ -86,7 +86,7 @@ pushed {told} {left} {mode} {hasher} {after} {node} held part push len same =
     }
 
 -- the last part, with which the hasher stands for all
-pub ended : {told : Option Contents} {left : List ℕ} {mode : Mode} {hasher : State} {len : ℕ} {node : Node}
+pub ended : {told : Option Contents} {left : List ℕ} {mode : Mode} {hasher : HasherState} {len : ℕ} {node : Node}
     (held : HasHashed told left mode hasher) (part : IsPartOf told left mode (length_of hasher) len node)
     → IsSome told → length left ≡ length_of hasher + len → left ≡ held.before ++ part.bytes
 ended {told} {left} {mode} {hasher} {len} {node} held part is_told whole =

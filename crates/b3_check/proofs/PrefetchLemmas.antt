@@ -6,7 +6,7 @@ use Rattle.std.proofs.lemmas.List.{get_or-map, length-map, map-append}
 use Rattle.std.proofs.lemmas.List.Elements.{All-push, All-set}
 use Rattle.b3_check.specs.declared.items.Item.{Item}
 use Rattle.b3_check.specs.declared.items.Item.TheVariants.{Ask as AskItem}
-use Rattle.b3_check.specs.declared.items.Subject.{Subject}
+use Rattle.b3_check.specs.declared.items.Request.{Request}
 use Rattle.b3_check.specs.declared.message.Message.{Message}
 use Rattle.b3_check.specs.declared.name_hasher.Prefetched.{Prefetched}
 use Rattle.b3_check.specs.declared.output_range.OutputRange.{OutputRange}
@@ -32,10 +32,10 @@ item_at queue index queued d lt is =
 
 -- it was found for the name that is asked for there
 pub found_for : {told : Option Contents} {range : OutputRange} {message : Message} (queue : List Queued) (index : ℕ)
-    (queued : Queued) (subject : Subject) → index < length queue → queued ≡ slice_index_or queue index queued
-    → queued.item ≡ AskItem subject → HasReport told range subject message
+    (queued : Queued) (request : Request) → index < length queue → queued ≡ slice_index_or queue index queued
+    → queued.item ≡ AskItem request → HasReport told range request message
     → IsFound told range (items_of queue) (record { index = index; message = message })
-found_for {told} {range} {message} queue index queued subject lt at asks is = λ d _.
+found_for {told} {range} {message} queue index queued request lt at asks is = λ d _.
     rw (item_at queue index queued d lt at ∙ asks) is
 
 -- what was found is noted

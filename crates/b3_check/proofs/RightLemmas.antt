@@ -24,15 +24,16 @@ use Rattle.b3_check.specs.declared.options.Limits.{Limits}
 use Rattle.b3_check.specs.declared.options.SumOptions.{SumOptions}
 use Rattle.b3_check.specs.declared.tally.Tally.{Tally}
 use Rattle.b3_check.specs.Checks.{Entry, check_script, entry_of, line_script, line_scripts, lines_script, list_end_report, list_script, lists_script, refused_report, unread_list_report, verdict_on, verdict_report, warning_report}
-use Rattle.b3_check.specs.Contents.{Contents}
+use Rattle.b3_check.specs.Contents.{Contents, input_name}
 use Rattle.b3_check.specs.Digests.{digest_of, digest_script, line_range, range_of}
 use Rattle.b3_check.specs.Laws.{ChecksRightly, IsJust, IsModeOf, LineIsRight, ListIsRight, NameIsRight, Says, SumsRightly, Writes, cannot_show, digest, total}
-use Rattle.b3_check.specs.Runs.{Runs, Scene}
+use Rattle.b3_check.specs.Runs.{IoState}
+use Rattle.b3_check.specs.Devices.{Runs}
 use Rattle.b3_check.specs.Scripts.{AgreesWith, Answer, AnswersFirst, IsComplete, Report, Script, answer_of, followed_by, in_turn, joined, nothing, report, then_counted}
 use Rattle.b3_check.specs.Scripts.Kind.{Hashed, Key, Listed}
 use Rattle.b3_check.specs.Scripts.Script.{Ask, Done, Fail, Say}
 use Rattle.b3_check.specs.Sinks.{GainsBeginning}
-use Rattle.b3_check.specs.Sums.{failed_report, key_name, keyed_script, name_report, name_script, names_script, sum_script, with_mode}
+use Rattle.b3_check.specs.Sums.{failed_report, keyed_script, name_report, name_script, names_script, sum_script, with_mode}
 use Rattle.b3_check.specs.Tallies.{no_tally, tally_sum}
 use Rattle.b3_check.proofs.CheckLemmas.{entry_of-read}
 use Rattle.b3_check.proofs.Gains.{GainsBeginning-longer}
@@ -194,7 +195,7 @@ module _ (contents : Contents) (sure : Bool) where
   -- ---- sums
 
   -- the mode of a key that is the content of `-`, or a fault
-  keyed : (next : Mode → Script) (P : Report → Type 0) (content : Option (List ℕ)) → contents key_name ≡ content
+  keyed : (next : Mode → Script) (P : Report → Type 0) (content : Option (List ℕ)) → contents input_name ≡ content
       → ((mode : Mode) → IsModeOf contents Keyed mode → Assures contents sure (next mode) P) → (said : Report) × P said
       → Assures contents sure (keyed_script next (answer_of Key content)) P
   keyed next P None is run other = other
@@ -215,7 +216,7 @@ module _ (contents : Contents) (sure : Bool) where
   in_mode (Derive context) next P run other = run (derived_mode (string_bytes context)) refl
   in_mode Keyed next P run other = λ answer agrees. elim agrees [
     | inl is ↦ subst (λ (a : Answer). Assures contents sure (keyed_script next a) P) (sym is)
-        (keyed next P (contents key_name) refl run other)
+        (keyed next P (contents input_name) refl run other)
     | inr is ↦ subst (λ (a : Answer). Assures contents sure (keyed_script next a) P) (sym is.0) other
   ]
 
@@ -367,7 +368,7 @@ module _ (contents : Contents) (sure : Bool) where
 -- ---- runs
 
 -- a run writes its whole report, or a beginning of it
-writes : (limits : Limits) (s : Script) (before after : Scene) (result : Result Tally RunFault) (contents : Contents)
+writes : (limits : Limits) (s : Script) (before after : IoState) (result : Result Tally RunFault) (contents : Contents)
     (P : Report → Type 0) → before.told ≡ Some contents → Assures contents before.sure s P
     → Runs limits s before after result
     → (said : Report) × P said × Writes said before.out.held after.out.held before.err.held after.err.held result
@@ -398,7 +399,7 @@ writes limits s before after (Err fault) contents P told holds stopped =
       ),
     )
 
-pub SumsRightly-from_run : (limits : Limits) (before after : Scene) (result : Result Tally RunFault)
+pub SumsRightly-from_run : (limits : Limits) (before after : IoState) (result : Result Tally RunFault)
     (contents : Contents) (options : SumOptions) (names : List (List ℕ)) → before.told ≡ Some contents
     → Runs limits (sum_script options names) before after result
     → SumsRightly contents options names before.out.held after.out.held before.err.held after.err.held result
@@ -409,7 +410,7 @@ SumsRightly-from_run limits before after result contents options names told run 
     λ p. Writes p before.out.held after.out.held before.err.held after.err.held result in
     record { said = all.1.0; right = all.1.1; writes = subst Wrote_so all.1.2 all.2 }
 
-pub ChecksRightly-from_run : (limits : Limits) (before after : Scene) (result : Result Tally RunFault)
+pub ChecksRightly-from_run : (limits : Limits) (before after : IoState) (result : Result Tally RunFault)
     (contents : Contents) (options : CheckOptions) (lists : List (List ℕ)) → before.told ≡ Some contents
     → Runs limits (check_script options lists) before after result
     → ChecksRightly contents options lists before.out.held after.out.held before.err.held after.err.held result

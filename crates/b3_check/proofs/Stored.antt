@@ -167,51 +167,51 @@ puts_push files name content new none new_name new_content asked =
     ]
 
 -- of what is left after those that were given, the first bytes are given
-gives_within : (content : List ℕ) (given count buffer : ℕ) → given ≤ length content
-    → count ≡ min (length (drop given content)) buffer → 0 < buffer
-    → Gives (drop given content) (take count (drop given content)) (drop (given + count) content)
-gives_within content given count buffer within is_least some = record {
+gives_within : (content : List ℕ) (consumed count buffer : ℕ) → consumed ≤ length content
+    → count ≡ min (length (drop consumed content)) buffer → 0 < buffer
+    → Gives (drop consumed content) (take count (drop consumed content)) (drop (consumed + count) content)
+gives_within content consumed count buffer within is_least some = record {
   parts =
-      sym (take-append-drop count (drop given content))
-      ∙ ap (λ rest. take count (drop given content) ++ rest) (drop-drop count given content);
-  end = λ none. nil_from_length (drop given content) (
-      let few : length (take count (drop given content)) ≡ 0 = ap length none in
-      omega (arith, few, length-take count (drop given content), is_least, some)
+      sym (take-append-drop count (drop consumed content))
+      ∙ ap (λ rest. take count (drop consumed content) ++ rest) (drop-drop count consumed content);
+  end = λ none. nil_from_length (drop consumed content) (
+      let few : length (take count (drop consumed content)) ≡ 0 = ap length none in
+      omega (arith, few, length-take count (drop consumed content), is_least, some)
       );
 }
 
 -- a read gives the bytes after those that were given
-pub gives_next : (content : List ℕ) (given count buffer : ℕ)
-    → count ≡ min (length (drop (min given (length content)) content)) buffer → 0 < buffer
-    → Gives (drop given content) (take count (drop (min given (length content)) content)) (drop (given + count) content)
-gives_next content given count buffer is_least some =
-    elim (cases_lt (length content) given) [
+pub gives_next : (content : List ℕ) (consumed count buffer : ℕ)
+    → count ≡ min (length (drop (min consumed (length content)) content)) buffer → 0 < buffer
+    → Gives (drop consumed content) (take count (drop (min consumed (length content)) content)) (drop (consumed + count) content)
+gives_next content consumed count buffer is_least some =
+    elim (cases_lt (length content) consumed) [
       | inl past ↦
-          let end : min given (length content) ≡ length content = omega arith in
+          let end : min consumed (length content) ≡ length content = omega arith in
           let none : drop (length content) content ≡ [] = drop-length content in
           let zero : count ≡ 0 = is_least ∙ ap (λ n. min (length (drop n content)) buffer) end
           ∙ ap (λ rest. min (length rest) buffer) none ∙ omega arith in
-          let gone : drop given content ≡ [] = nil_from_length (drop given content)
-          (omega (arith, length-drop given content)) in
-          let gone_on : drop (given + count) content ≡ [] = nil_from_length (drop (given + count) content)
-          (omega (arith, length-drop (given + count) content)) in
+          let gone : drop consumed content ≡ [] = nil_from_length (drop consumed content)
+          (omega (arith, length-drop consumed content)) in
+          let gone_on : drop (consumed + count) content ≡ [] = nil_from_length (drop (consumed + count) content)
+          (omega (arith, length-drop (consumed + count) content)) in
           rw (gone_on, gone, end, none, zero) (record { parts = refl; end = λ _. refl })
       | inr within ↦
-          let here : min given (length content) ≡ given = omega arith in
-          rw here (gives_within content given count buffer within (rw here at is_least) some)
+          let here : min consumed (length content) ≡ consumed = omega arith in
+          rw here (gives_within content consumed count buffer within (rw here at is_least) some)
     ]
 
 -- a read from the file that is begun
-pub shelf_gives : (files : List StoredFile) (begun : Option ℕ) (k given count m : ℕ) (file : StoredFile)
+pub shelf_gives : (files : List StoredFile) (begun : Option ℕ) (k consumed count m : ℕ) (file : StoredFile)
     (content buffer copied : List ℕ)
     → begun ≡ Some k → k < length files → file ≡ get_or files k file → content ≡ file.content.items
-    → m ≡ min given (length content)
+    → m ≡ min consumed (length content)
     → count ≡ min (length (take (length content - m) (drop m content))) (length buffer)
     → copied ≡ take count (take (length content - m) (drop m content))
     → 0 < length buffer
     → let begun_content = option_map_or (λ j. option_map_or (λ f. f.content.items) (slice_get files j) []) begun [] in
-    Gives (drop given begun_content) (take count (copied ++ drop count buffer)) (drop (given + count) begun_content)
-shelf_gives files begun k given count m file content buffer copied begun_is within is content_is m_is count_is copied_is
+    Gives (drop consumed begun_content) (take count (copied ++ drop count buffer)) (drop (consumed + count) begun_content)
+shelf_gives files begun k consumed count m file content buffer copied begun_is within is content_is m_is count_is copied_is
     some =
     let stored : option_map_or (λ f. f.content.items) (slice_get files k) [] ≡ content =
     ap (λ found. option_map_or (λ f. f.content.items) found []) (slice_get-get_or files k file within)
@@ -224,19 +224,19 @@ shelf_gives files begun k given count m file content buffer copied begun_is with
     ∙ length-take-le count (drop m content) (omega (arith, least)) in
     let taken : take count (copied ++ drop count buffer) ≡ take count (drop m content) =
     ap (λ n. take n (copied ++ drop count buffer)) (sym sized) ∙ take-append_seam copied (drop count buffer) ∙ first in
-    rw (begun_is, stored, taken, m_is) (gives_next content given count (length buffer) (rw m_is at least) some)
+    rw (begun_is, stored, taken, m_is) (gives_next content consumed count (length buffer) (rw m_is at least) some)
 
 -- the bytes from an offset on, after those that were given
-pub shelf_gives_at : (files : List StoredFile) (begun : Option ℕ) (k given offset count : ℕ) (file : StoredFile)
+pub shelf_gives_at : (files : List StoredFile) (begun : Option ℕ) (k consumed offset count : ℕ) (file : StoredFile)
     (content buffer copied : List ℕ)
     → begun ≡ Some k → k < length files → file ≡ get_or files k file → content ≡ file.content.items
-    → count ≡ min (length (drop (given + offset) content)) (length buffer)
-    → copied ≡ take count (drop (given + offset) content)
+    → count ≡ min (length (drop (consumed + offset) content)) (length buffer)
+    → copied ≡ take count (drop (consumed + offset) content)
     → let begun_content = option_map_or (λ j. option_map_or (λ f. f.content.items) (slice_get files j) []) begun [] in
-    take count (copied ++ drop count buffer) ≡ take (length buffer) (drop offset (drop given begun_content))
-shelf_gives_at files begun k given offset count file content buffer copied begun_is within is content_is count_is
+    take count (copied ++ drop count buffer) ≡ take (length buffer) (drop offset (drop consumed begun_content))
+shelf_gives_at files begun k consumed offset count file content buffer copied begun_is within is content_is count_is
     copied_is =
-    let rest = drop (given + offset) content in
+    let rest = drop (consumed + offset) content in
     let stored : option_map_or (λ f. f.content.items) (slice_get files k) [] ≡ content =
     ap (λ found. option_map_or (λ f. f.content.items) found []) (slice_get-get_or files k file within)
     ∙ ap (λ f. f.content.items) (sym is) ∙ sym content_is in
@@ -247,4 +247,4 @@ shelf_gives_at files begun k given offset count file content buffer copied begun
     let most : count ≡ min (length buffer) (length rest) = omega (arith, count_is) in
     let all : take count rest ≡ take (length buffer) rest =
     ap (λ n. take n rest) most ∙ take_min (length buffer) rest in
-    rw (begun_is, stored) (taken ∙ all ∙ ap (take (length buffer)) (sym (drop-drop offset given content)))
+    rw (begun_is, stored) (taken ∙ all ∙ ap (take (length buffer)) (sym (drop-drop offset consumed content)))

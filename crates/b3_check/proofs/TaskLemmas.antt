@@ -6,8 +6,8 @@ use Rattle.b3_check.specs.declared.tally.Tally.{Tally}
 use Rattle.b3_check.specs.declared.fault.RunFault.{RunFault}
 use Rattle.b3_check.specs.declared.fault.RunFault.TheVariants.{WriteFault, Memory}
 use Rattle.b3_check.specs.declared.output_range.OutputRange.{OutputRange}
-use Rattle.b3_check.specs.declared.items.Subject.{Subject}
-use Rattle.b3_check.specs.declared.items.Subject.TheVariants.{Line, Name}
+use Rattle.b3_check.specs.declared.items.Request.{Request}
+use Rattle.b3_check.specs.declared.items.Request.TheVariants.{Line, Name}
 use Rattle.b3_check.specs.declared.judging.Verdict.{Verdict}
 use Rattle.b3_check.specs.declared.judging.Verdict.TheVariants.{Good, Differs, Missing, Unreadable}
 use Rattle.b3_check.specs.Checks.{verdict_on, verdict_tally}
@@ -18,14 +18,15 @@ use Rattle.b3_check.specs.Contents.{Contents, HasContent}
 use Rattle.b3_check.specs.Digests.{digest_of, digest_script}
 use Rattle.b3_check.specs.Owing.{RanOwing, on_out}
 use Rattle.b3_check.specs.Reading.{Digested}
-use Rattle.b3_check.specs.Runs.{Broke, HasRoom, Ran, Scene, Stopped, Went}
+use Rattle.b3_check.specs.Runs.{Broke, Ran, IoState, Stopped, Went}
+use Rattle.b3_check.specs.Devices.{CanCount}
 use Rattle.b3_check.specs.Scripts.{AgreesWith, Given, Report, answer_of, followed_by, in_turn}
 use Rattle.b3_check.specs.Scripts.Kind.{Hashed}
 use Rattle.b3_check.specs.Scripts.Script.{Done, Say}
 use Rattle.b3_check.specs.Sums.{failed_report, is_bad_name, name_report, name_script, names_script, shows_name}
-use Rattle.b3_check.specs.Tallies.{counted, no_tally, one_failed, one_missing, tally_sum}
+use Rattle.b3_check.specs.Tallies.{no_tally, one_failed, one_missing, tally_sum}
+use Rattle.b3_check.specs.Tasks.{counted, Found, Task, name_asked, name_task, report_of, request_report, task_script, tasks_script}
 use Rattle.b3_check.specs.Prefetch.{HasReport}
-use Rattle.b3_check.specs.Tasks.{Found, Task, name_asked, name_task, report_of, subject_report, task_script, tasks_script}
 use Rattle.b3_check.specs.Tasks.Task.{Tell, Find}
 use Rattle.b3_check.proofs.OwingLemmas.{owing_done, owing_stopped, owing_then, owing_written}
 use Rattle.b3_check.proofs.RunLemmas.{stopped_answered, stopped_at_once, stopped_early, stopped_said, went_nowhere}
@@ -34,7 +35,7 @@ use Rattle.b3_check.proofs.ScriptLemmas.{in_turn-append, in_turn-more, joined-no
 -- ---- one task
 
 -- what is said without asking
-pub found_told : (a : Scene) (message : Message) → Found (Say (report_of message) Done) a a message
+pub found_told : (a : IoState) (message : Message) → Found (Say (report_of message) Done) a a message
 found_told a message =
     record { answers = []; agree = tt; complete = tt; went = went_nowhere a; is = sym (joined-nothing (report_of message)) }
 
@@ -44,12 +45,12 @@ agrees_known : (told : Option Contents) (sure : Bool) (name content : List ℕ) 
 agrees_known None sure name content has = tt
 agrees_known (Some contents) sure name content has = inl (sym (ap (answer_of Hashed) has))
 
-pub found_known : {range : OutputRange} {message : Message} (a : Scene) (subject : Subject)
-    → HasReport a.told range subject message
-    → Found (digest_script range (name_asked subject) (subject_report subject)) a a message
-found_known {range} {message} a subject known = record {
+pub found_known : {range : OutputRange} {message : Message} (a : IoState) (request : Request)
+    → HasReport a.told range request message
+    → Found (digest_script range (name_asked request) (request_report request)) a a message
+found_known {range} {message} a request known = record {
   answers = Ok known.content ∷ [];
-  agree = (agrees_known a.told a.sure (name_asked subject) known.content known.has, tt);
+  agree = (agrees_known a.told a.sure (name_asked request) known.content known.has, tt);
   complete = tt;
   went = record {
     heard = record { told = refl; sure = refl; failures = omega arith };
@@ -60,7 +61,7 @@ found_known {range} {message} a subject known = record {
 }
 
 -- there is no memory for what is to be said
-pub stopped_unsaid : {limits : Limits} {a b : Scene} {fault : RunFault} {range : OutputRange} {name : List ℕ}
+pub stopped_unsaid : {limits : Limits} {a b : IoState} {fault : RunFault} {range : OutputRange} {name : List ℕ}
     {digest : Given (List ℕ)}
     (says : Given (List ℕ) → Report) → Digested range name digest a b → fault ≡ Memory
     → Stopped limits (digest_script range name says) a b fault
@@ -82,28 +83,28 @@ counted-verdict_tally options Missing =
     elim options.ignore_missing as (λ b. counted (if b then one_missing else one_failed) ≤ 2)
     [ true ↦ omega arith | false ↦ omega arith ]
 
-pub counted-subject_report : (subject : Subject) (digest : Given (List ℕ))
-    → counted (subject_report subject digest).tally ≤ 2
-counted-subject_report (Name form name) digest = counted-name_report form name.now digest
-counted-subject_report (Line options line) digest = counted-verdict_tally options (verdict_on line.digest digest)
+pub counted-request_report : (request : Request) (digest : Given (List ℕ))
+    → counted (request_report request digest).tally ≤ 2
+counted-request_report (Name form name) digest = counted-name_report form name.now digest
+counted-request_report (Line options line) digest = counted-verdict_tally options (verdict_on line.digest digest)
 
 -- ---- tasks so far
 
 -- the tasks so far are run, of whose texts one is still to be written, and each is counted at most twice
-pub record SoFar (range : OutputRange) (all left : List Task) (a b : Scene) (owing : List ℕ) (tally : Tally) : Type 0 where
+pub record SoFar (range : OutputRange) (all left : List Task) (a b : IoState) (owing : List ℕ) (tally : Tally) : Type 0 where
   pub done : List Task
   pub parts : all ≡ done ++ left
   pub ran : RanOwing (tasks_script range done) a b [] owing tally
   pub twice : counted tally ≤ 2 * length done
   pub failures : b.failures ≤ a.failures + length done
 
-pub so_far_none : {range : OutputRange} {all : List Task} {a : Scene} {m : Tally} → m ≡ no_tally
+pub so_far_none : {range : OutputRange} {all : List Task} {a : IoState} {m : Tally} → m ≡ no_tally
     → SoFar range all all a a [] m
 so_far_none {range} {all} {a} {m} is =
     record { done = []; parts = refl; ran = rw is (owing_done a); twice = rw is (omega arith); failures = omega arith }
 
 -- one more task is run
-pub so_far_more : {range : OutputRange} {all rest : List Task} {a b c : Scene} {v w : List ℕ} {m n : Tally} (task : Task)
+pub so_far_more : {range : OutputRange} {all rest : List Task} {a b c : IoState} {v w : List ℕ} {m n : Tally} (task : Task)
     → SoFar range all (task ∷ rest) a b v m → RanOwing (task_script range task) b c v w n → counted n ≤ 2
     → c.failures ≤ b.failures + 1
     → SoFar range all rest a c w (tally_sum m n)
@@ -122,7 +123,7 @@ so_far_more {range} {all} {rest} {a} {b} {c} {v} {w} {m} {n} task so_far ran two
     }
 
 -- the script of all tasks is that of those done, and then of those left
-so_far_script : {range : OutputRange} {all left : List Task} {a b : Scene} {v : List ℕ} {m : Tally}
+so_far_script : {range : OutputRange} {all left : List Task} {a b : IoState} {v : List ℕ} {m : Tally}
     (so_far : SoFar range all left a b v m)
     → tasks_script range all ≡ followed_by (tasks_script range so_far.done) (tasks_script range left)
 so_far_script {range} {all} {left} so_far =
@@ -131,7 +132,7 @@ so_far_script {range} {all} {left} so_far =
     ∙ in_turn-append (map (task_script range) so_far.done) (map (task_script range) left)
 
 -- a run stops at a task
-pub so_far_stopped : {range : OutputRange} {all rest : List Task} {a b c : Scene} {v : List ℕ} {m : Tally} {limits : Limits}
+pub so_far_stopped : {range : OutputRange} {all rest : List Task} {a b c : IoState} {v : List ℕ} {m : Tally} {limits : Limits}
     {fault : RunFault} (task : Task)
     → SoFar range all (task ∷ rest) a b v m → Stopped limits (Say (on_out v) (task_script range task)) b c fault
     → Stopped limits (tasks_script range all) a c fault
@@ -139,7 +140,7 @@ so_far_stopped {range} {all} {rest} {a} {b} {c} {v} {m} {limits} {fault} task so
     rw (so_far_script so_far) (owing_stopped so_far.ran (stopped_early (tasks_script range rest) stopped))
 
 -- a run stops before the next task
-pub so_far_refused : {range : OutputRange} {all left : List Task} {a b : Scene} {v : List ℕ} {m : Tally} {limits : Limits}
+pub so_far_refused : {range : OutputRange} {all left : List Task} {a b : IoState} {v : List ℕ} {m : Tally} {limits : Limits}
     {fault : RunFault}
     → SoFar range all left a b v m → fault ≡ Memory → Stopped limits (tasks_script range all) a b fault
 so_far_refused {range} {all} {left} {a} {b} {v} {m} {limits} {fault} so_far refused =
@@ -147,7 +148,7 @@ so_far_refused {range} {all} {left} {a} {b} {v} {m} {limits} {fault} so_far refu
     (owing_stopped so_far.ran (stopped_at_once (Say (on_out v) (tasks_script range left)) b fault refused))
 
 -- a sink fails after all tasks
-pub so_far_unwritten : {range : OutputRange} {all left : List Task} {a b c : Scene} {v : List ℕ} {m : Tally}
+pub so_far_unwritten : {range : OutputRange} {all left : List Task} {a b c : IoState} {v : List ℕ} {m : Tally}
     {limits : Limits} {fault : RunFault}
     → SoFar range all left a b v m → left ≡ [] → Broke b c [] (on_out v) fault → fault ≡ WriteFault
     → Stopped limits (tasks_script range all) a c fault
@@ -158,7 +159,7 @@ so_far_unwritten {range} {all} {left} {a} {b} {c} {v} {m} {limits} {fault} so_fa
     (owing_stopped so_far.ran (stopped_said (on_out v) broke (inl is)))
 
 -- no task is left, and what was owed is written
-pub so_far_all : {range : OutputRange} {all left : List Task} {a b c : Scene} {v : List ℕ} {m : Tally} → left ≡ []
+pub so_far_all : {range : OutputRange} {all left : List Task} {a b c : IoState} {v : List ℕ} {m : Tally} → left ≡ []
     → SoFar range all left a b v m → Went b c [] (on_out v)
     → Ran (tasks_script range all) a c m × (counted m ≤ 2 * length all) × (c.failures ≤ a.failures + length all)
 so_far_all {range} {all} {left} {a} {b} {c} {v} {m} none so_far written =
@@ -169,44 +170,44 @@ so_far_all {range} {all} {left} {a} {b} {c} {v} {m} none so_far written =
     )
 
 -- how many are done, and how many are left
-so_far_length : {range : OutputRange} {all left : List Task} {a b : Scene} {v : List ℕ} {m : Tally}
+so_far_length : {range : OutputRange} {all left : List Task} {a b : IoState} {v : List ℕ} {m : Tally}
     (so_far : SoFar range all left a b v m)
     → length all ≡ length so_far.done + length left
 so_far_length {range} {all} {left} {a} {b} {v} {m} so_far =
     ap (λ (xs : List Task). length xs) so_far.parts ∙ length-append so_far.done left
 
 -- the next failures can be counted
-pub so_far_room : {range : OutputRange} {all rest : List Task} {task : Task} {a b : Scene} {v : List ℕ} {m : Tally}
-    → HasRoom a (length all)
-    → SoFar range all (task ∷ rest) a b v m → HasRoom b 1
-so_far_room {range} {all} {rest} {task} {a} {b} {v} {m} room so_far =
+pub so_far_room : {range : OutputRange} {all rest : List Task} {task : Task} {a b : IoState} {v : List ℕ} {m : Tally}
+    → CanCount a (length all)
+    → SoFar range all (task ∷ rest) a b v m → CanCount b 1
+so_far_room {range} {all} {rest} {task} {a} {b} {v} {m} countable so_far =
     let went = so_far.ran.went.went in
     record {
-      shelf = omega (arith, room.shelf, so_far.failures, so_far_length so_far);
-      out = omega (arith, room.out, went.out.count);
-      err = omega (arith, room.err, went.err.count);
+      shelf = omega (arith, countable.shelf, so_far.failures, so_far_length so_far);
+      out = omega (arith, countable.out, went.out.count);
+      err = omega (arith, countable.err, went.err.count);
     }
 
 -- those of the sinks after all tasks
-pub so_far_last_room : {range : OutputRange} {all left : List Task} {a b : Scene} {v : List ℕ} {m : Tally}
-    → HasRoom a (length all)
-    → SoFar range all left a b v m → HasRoom b 0
-so_far_last_room {range} {all} {left} {a} {b} {v} {m} room so_far =
+pub so_far_last_room : {range : OutputRange} {all left : List Task} {a b : IoState} {v : List ℕ} {m : Tally}
+    → CanCount a (length all)
+    → SoFar range all left a b v m → CanCount b 0
+so_far_last_room {range} {all} {left} {a} {b} {v} {m} countable so_far =
     let went = so_far.ran.went.went in
     record {
-      shelf = omega (arith, room.shelf, so_far.failures, so_far_length so_far);
-      out = omega (arith, room.out, went.out.count);
-      err = omega (arith, room.err, went.err.count);
+      shelf = omega (arith, countable.shelf, so_far.failures, so_far_length so_far);
+      out = omega (arith, countable.out, went.out.count);
+      err = omega (arith, countable.err, went.err.count);
     }
 
 -- the shelf failed no more often than there are tasks
-pub so_far_least : {range : OutputRange} {all left : List Task} {a b : Scene} {v : List ℕ} {m : Tally}
+pub so_far_least : {range : OutputRange} {all left : List Task} {a b : IoState} {v : List ℕ} {m : Tally}
     → SoFar range all left a b v m
     → b.failures ≤ a.failures + length all
 so_far_least {range} {all} {left} {a} {b} {v} {m} so_far = omega
     (arith, so_far.failures, so_far_length so_far)
 
-pub so_far_least_next : {range : OutputRange} {all rest : List Task} {task : Task} {a b : Scene} {v : List ℕ} {m : Tally}
+pub so_far_least_next : {range : OutputRange} {all rest : List Task} {task : Task} {a b : IoState} {v : List ℕ} {m : Tally}
     (failures : ℕ)
     → SoFar range all (task ∷ rest) a b v m
     → failures ≤ b.failures + 1 → failures ≤ a.failures + length all

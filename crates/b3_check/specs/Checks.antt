@@ -3,8 +3,8 @@ use Rattle.std.specs.Prelude.{ℕ, ◌+◌, ◌==◌, ◌&&◌, ◌||◌, Bool, 
 use Rattle.std.specs.Option.{option_map_or}
 use Rattle.hex.specs.Hex.{decode_of}
 use Rattle.b3_lines.specs.Lines.{lines_of}
-use Rattle.b3_lines.specs.Parts.{shown_of}
-use Rattle.b3_lines.specs.Reading.{after_mark, first_refusal, has_mark, layout_of, name_of, without_return}
+use Rattle.b3_lines.specs.Reading.{after_mark, first_refusal, has_mark, layout_of, name_of, shown_of}
+use Rattle.b3_lines.specs.Reading.{without_carriage_return}
 use Rattle.b3_lines.specs.Reasons.{reason_of}
 use Rattle.b3_lines.specs.declared.fault.LineFault.{LineFault}
 use Rattle.b3_check.specs.declared.judging.Answer.{Answer as DigestAnswer}
@@ -18,6 +18,7 @@ use Rattle.b3_check.specs.Scripts.{Answer, Given, Script, Report, in_turn, then_
 use Rattle.b3_check.specs.Scripts.Kind.{Listed}
 use Rattle.b3_check.specs.Scripts.Script.{Done, Say, Ask}
 use Rattle.b3_check.specs.Digests.{digest_script, line_range}
+use Rattle.b3_check.specs.Faults.{prefix}
 use Rattle.b3_check.specs.Sums.{complaint, line_feed}
 
 -- what a line that is not refused says: a digest, a name, and the name as it stands in the line
@@ -34,12 +35,12 @@ decoded (Err _) = []
 -- the entry of a line that is not refused
 unfoldable pub entry_of : List ℕ → Entry
 entry_of line =
-    let text = without_return line in
+    let text = without_carriage_return line in
     let layout = layout_of (after_mark text) in
     record {
       digest = decoded (decode_of layout.digits);
-      name = name_of (has_mark text) layout.spelled;
-      shown = shown_of (has_mark text) layout.spelled;
+      name = name_of (has_mark text) layout.raw_name;
+      shown = shown_of (has_mark text) layout.raw_name;
     }
 
 -- what an answer says of the digest of a line
@@ -100,7 +101,7 @@ line_reason number reason = codes "line " ++ decimal number ++ codes ": " ++ rea
 abbrev pub refusal : CheckOptions → List ℕ → ℕ → List ℕ → List ℕ
 refusal options list number reason =
     if options.warn then complaint list (line_reason number reason)
-    else codes "b3sum: " ++ line_reason number reason ++ line_feed
+    else prefix ++ line_reason number reason ++ line_feed
 
 -- the line is malformed
 abbrev pub refused_report : CheckOptions → List ℕ → ℕ → LineFault → Report
@@ -168,7 +169,7 @@ mismatches failed =
 
 -- what is said where so many lines failed
 abbrev pub warning : ℕ → List ℕ
-warning failed = if failed == 0 then [] else codes "b3sum: WARNING: " ++ decimal failed ++ mismatches failed
+warning failed = if failed == 0 then [] else prefix ++ codes "WARNING: " ++ decimal failed ++ mismatches failed
     ++ line_feed
 
 -- the warning after the last list

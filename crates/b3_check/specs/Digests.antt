@@ -1,4 +1,4 @@
--- Digests: which bytes of which output of a content are wanted.
+-- Digests: which bytes of which output of a content are wanted (BLAKE3 (2020), 2.6).
 use Rattle.std.specs.Prelude.{ℕ, List}
 use Rattle.b3_core.specs.Modes.{hash_mode}
 use Rattle.b3_core.specs.Output.{blake3}

@@ -1,15 +1,19 @@
--- What a run fault says, and when it comes from a sink.
-use Rattle.std.specs.Prelude.{ℕ, Bool, true, false, List, codes, Result, Ok, Err}
+-- What the program's own texts begin with, what a run fault says, and when it comes from a sink.
+use Rattle.std.specs.Prelude.{ℕ, Bool, true, false, List, ◌++◌, codes, Result, Ok, Err}
 use Rattle.b3_check.specs.declared.fault.RunFault.{RunFault}
 use Rattle.b3_check.specs.declared.fault.RunFault.TheVariants.{ReadFault, WriteFault, Memory, BadKey, EndlessInput}
 
+-- what each text of the program's own begins with
+abbrev pub prefix : List ℕ
+prefix = codes "b3sum: "
+
 -- the text of a fault, without a line feed
 abbrev pub fault_text : RunFault → List ℕ
-fault_text ReadFault = codes "b3sum: cannot read the key"
-fault_text WriteFault = codes "b3sum: cannot write"
-fault_text Memory = codes "b3sum: out of memory"
-fault_text BadKey = codes "b3sum: the key is not 32 bytes"
-fault_text EndlessInput = codes "b3sum: endless input"
+fault_text ReadFault = prefix ++ codes "cannot read the key"
+fault_text WriteFault = prefix ++ codes "cannot write"
+fault_text Memory = prefix ++ codes "out of memory"
+fault_text BadKey = prefix ++ codes "the key is not 32 bytes"
+fault_text EndlessInput = prefix ++ codes "endless input"
 
 -- whether a fault comes from a sink
 abbrev pub is_of_sink : RunFault → Bool

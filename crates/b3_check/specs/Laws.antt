@@ -21,10 +21,10 @@ use Rattle.b3_check.specs.declared.options.KeyChoice.TheVariants.{Plain, Keyed, 
 use Rattle.b3_check.specs.declared.options.SumOptions.{SumOptions}
 use Rattle.b3_check.specs.declared.tally.Tally.{Tally}
 use Rattle.b3_check.specs.Checks.{Entry, list_end_report, refused_report, unread_list_report, verdict_report, warning, warning_report}
-use Rattle.b3_check.specs.Contents.{Contents}
+use Rattle.b3_check.specs.Contents.{Contents, input_name}
 use Rattle.b3_check.specs.Scripts.{Report, joined, nothing}
 use Rattle.b3_check.specs.Sinks.{GainsBeginning}
-use Rattle.b3_check.specs.Sums.{digest_text, failed_report, is_bad_name, key_name, name_report, shows_name}
+use Rattle.b3_check.specs.Sums.{digest_text, failed_report, is_bad_name, name_report, shows_name}
 use Rattle.b3_check.specs.Tallies.{no_tally, one_differing, one_failed, one_ok, tally_sum}
 
 -- ---- the words
@@ -56,7 +56,7 @@ Writes said out_old out_new err_old err_new (Err fault) =
 abbrev pub IsModeOf : Contents → KeyChoice → Mode → Type 0
 IsModeOf contents Plain mode = mode ≡ hash_mode
 IsModeOf contents Keyed mode =
-    (key : List ℕ) × (contents key_name ≡ Some key) × (length key ≡ 32) × (mode ≡ keyed_mode key)
+    (key : List ℕ) × (contents input_name ≡ Some key) × (length key ≡ 32) × (mode ≡ keyed_mode key)
 IsModeOf contents (Derive context) mode = mode ≡ derived_mode (string_bytes context)
 
 -- the form shows the name, and no line can
@@ -177,8 +177,8 @@ pub record IsThere (contents : Contents) (file : File) : Type 0 where
   pub is_lawful : holds_bad_character file.name ≡ false
 
 -- a shelf tells that it has just these contents, and fails nowhere else, as one in memory
-abbrev pub Knows : Option Contents → Bool → Contents → Type 0
-Knows told sure contents = (told ≡ Some contents) × (sure ≡ true)
+abbrev pub IsReliable : Option Contents → Bool → Contents → Type 0
+IsReliable told sure contents = (told ≡ Some contents) × (sure ≡ true)
 
 -- the digests that check lines hold are asked for
 pub record AsksDigests (options : SumOptions) : Type 0 where

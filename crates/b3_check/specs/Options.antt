@@ -4,6 +4,10 @@ use Rattle.b3_check.specs.declared.options.CheckOptions.{CheckOptions}
 use Rattle.b3_check.specs.declared.options.Limits.{Limits}
 use Rattle.b3_check.specs.declared.options.SumOptions.{SumOptions}
 
+-- how many output bytes a run writes of a digest at most
+abbrev pub max_output_len : ℕ
+max_output_len = 1048576
+
 -- a run may hash with so many workers, let a file take so many reads, and a list have so many bytes
 pub record AreBounds (workers turns largest : ℕ) : Type 0 where
   pub some_workers : (1 ≤ workers) × (workers ≤ 64)
@@ -12,7 +16,7 @@ pub record AreBounds (workers turns largest : ℕ) : Type 0 where
 
 -- names may be summed with these options
 pub record CanRun (options : SumOptions) : Type 0 where
-  pub length : options.length ≤ 1048576
+  pub length : options.length ≤ max_output_len
   pub in_output : options.seek + options.length ≤ 2 ^ 64 - 1
   pub bounds : AreBounds options.workers options.turns options.largest
 

@@ -1,4 +1,4 @@
--- What reading one name says.
+-- What reading one name gives: its answer and digest, or the fault that comes in their place.
 use Rattle.std.specs.Prelude.{◌≡◌, ◌≢◌, ◌⊎◌, ⊤, ℕ, ◌+◌, ◌<◌, ◌≤◌, ◌++◌, Bool, IsSome, List, [], ◌∷◌, Option, None, Some, Result, Ok, Err, length, take}
 use Rattle.std.specs.Option.{option_map}
 use Rattle.std.specs.String.{string_bytes}
@@ -15,12 +15,11 @@ use Rattle.b3_check.specs.declared.options.KeyChoice.{KeyChoice}
 use Rattle.b3_check.specs.declared.options.KeyChoice.TheVariants.{Plain, Keyed, Derive}
 use Rattle.b3_check.specs.declared.options.Limits.{Limits}
 use Rattle.b3_check.specs.declared.shelf.NoContent.{NoContent}
-use Rattle.b3_check.specs.Contents.{Contents}
+use Rattle.b3_check.specs.Contents.{Contents, input_name}
 use Rattle.b3_check.specs.Digests.{digest_of}
-use Rattle.b3_check.specs.Runs.{Broke, IsEndless, Scene, Went}
+use Rattle.b3_check.specs.Runs.{Broke, IsEndless, IoState, Went}
 use Rattle.b3_check.specs.Scripts.{AgreesWith, Answer, Given, Kind, given_map, nothing}
 use Rattle.b3_check.specs.Scripts.Kind.{Hashed, Key}
-use Rattle.b3_check.specs.Sums.{key_name}
 
 -- what was found, where the whole content was read
 abbrev pub found_if : Given ⊤ → List ℕ → Given (List ℕ)
@@ -54,29 +53,30 @@ pub record IsDigestOf (told : Option Contents) (sure : Bool) (name : List ℕ) (
   pub is : digest ≡ digest_of range answer
 
 -- a name is answered
-pub record Answered (kind : Kind) (name : List ℕ) (answer : Answer) (before after : Scene) : Type 0 where
+pub record Answered (kind : Kind) (name : List ℕ) (answer : Answer) (before after : IoState) : Type 0 where
   pub agrees : AgreesWith before.told before.sure kind name answer
   pub went : Went before after (answer ∷ []) nothing
 
 -- a fault comes in place of the answer
-pub record Unanswered (kind : Kind) (limits : Limits) (name : List ℕ) (before after : Scene)
+pub record Unanswered (kind : Kind) (limits : Limits) (name : List ℕ) (before after : IoState)
     (fault : RunFault) : Type 0 where
   pub broke : Broke before after [] nothing fault
   pub cause : IsReadingFault fault before.told limits kind name
 
 -- a name is asked for; `content` is what was read
-abbrev pub Asks : Kind → Limits → List ℕ → Scene → Scene → List ℕ → Result (Given ⊤) RunFault → Type 0
+abbrev pub Asks : Kind → Limits → List ℕ → IoState → IoState → List ℕ → Result (Given ⊤) RunFault → Type 0
 Asks kind limits name before after content (Ok whole) = Answered kind name (found_if whole content) before after
 Asks kind limits name before after content (Err fault) = Unanswered kind limits name before after fault
 
 -- a name is answered, and the digest is that of its answer
-pub record Digested (range : OutputRange) (name : List ℕ) (digest : Given (List ℕ)) (before after : Scene) : Type 0 where
+pub record Digested (range : OutputRange) (name : List ℕ) (digest : Given (List ℕ)) (before after : IoState)
+    : Type 0 where
   pub answer : Answer
   pub answered : Answered Hashed name answer before after
   pub is : digest ≡ digest_of range answer
 
 -- a name is asked for, and its digest; `digest` is what was found
-abbrev pub Hashes : OutputRange → Limits → List ℕ → Scene → Scene → List ℕ → Result (Given ⊤) RunFault → Type 0
+abbrev pub Hashes : OutputRange → Limits → List ℕ → IoState → IoState → List ℕ → Result (Given ⊤) RunFault → Type 0
 Hashes range limits name before after digest (Ok whole) = Digested range name (found_if whole digest) before after
 Hashes range limits name before after digest (Err fault) = Unanswered Hashed limits name before after fault
 
@@ -112,36 +112,36 @@ abbrev pub key_answer : Given KeyRead → Answer
 key_answer key = given_map key_bytes key
 
 -- the key was asked for and is 32 bytes, and this is its mode
-pub record FoundKey (mode : Mode) (before after : Scene) : Type 0 where
+pub record FoundKey (mode : Mode) (before after : IoState) : Type 0 where
   pub key : List ℕ
-  pub answered : Answered Key key_name (Ok key) before after
+  pub answered : Answered Key input_name (Ok key) before after
   pub len : length key ≡ 32
   pub is : mode ≡ keyed_mode key
 
 -- the key was asked for and is not 32 bytes
-pub record FoundBadKey (before after : Scene) : Type 0 where
+pub record FoundBadKey (before after : IoState) : Type 0 where
   pub key : List ℕ
-  pub answered : Answered Key key_name (Ok key) before after
+  pub answered : Answered Key input_name (Ok key) before after
   pub len : length key ≢ 32
 
 -- the key was asked for and cannot be read
-pub record FoundNoKey (before after : Scene) : Type 0 where
+pub record FoundNoKey (before after : IoState) : Type 0 where
   pub why : NoContent
-  pub answered : Answered Key key_name (Err why) before after
+  pub answered : Answered Key input_name (Err why) before after
 
 -- the mode of a choice of key
-abbrev pub FoundMode : KeyChoice → Mode → Scene → Scene → Type 0
+abbrev pub FoundMode : KeyChoice → Mode → IoState → IoState → Type 0
 FoundMode Plain mode before after = (mode ≡ hash_mode) × (after ≡ before)
 FoundMode Keyed mode before after = FoundKey mode before after
 FoundMode (Derive context) mode before after = (mode ≡ derived_mode (string_bytes context)) × (after ≡ before)
 
 -- why there is none
-abbrev pub FoundNoMode : KeyChoice → RunFault → Scene → Scene → Type 0
+abbrev pub FoundNoMode : KeyChoice → RunFault → IoState → IoState → Type 0
 FoundNoMode Plain fault before after = ⊥
 FoundNoMode Keyed fault before after =
     ((fault ≡ ReadFault) × FoundNoKey before after) ⊎ ((fault ≡ BadKey) × FoundBadKey before after)
 FoundNoMode (Derive context) fault before after = ⊥
 
-abbrev pub FindsMode : KeyChoice → Scene → Scene → Result Mode RunFault → Type 0
+abbrev pub FindsMode : KeyChoice → IoState → IoState → Result Mode RunFault → Type 0
 FindsMode key before after (Ok mode) = FoundMode key mode before after
 FindsMode key before after (Err fault) = FoundNoMode key fault before after

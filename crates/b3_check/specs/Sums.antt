@@ -14,6 +14,8 @@ use Rattle.b3_check.specs.declared.options.Form.{Form}
 use Rattle.b3_check.specs.declared.options.Form.TheVariants.{Named, Bare, Raw, Tagged}
 use Rattle.b3_check.specs.declared.options.KeyChoice.{KeyChoice}
 use Rattle.b3_check.specs.declared.options.KeyChoice.TheVariants.{Plain, Keyed, Derive}
+use Rattle.b3_check.specs.Contents.{input_name}
+use Rattle.b3_check.specs.Faults.{prefix}
 use Rattle.b3_check.specs.Tallies.{one_failed, one_ok}
 use Rattle.b3_check.specs.Scripts.{Answer, Given, Script, Report, in_turn}
 use Rattle.b3_check.specs.Scripts.Kind.{Key}
@@ -26,7 +28,7 @@ line_feed = 10 ∷ []
 
 -- what is said of a name that has no line: its shown form, and why
 abbrev pub complaint : List ℕ → List ℕ → List ℕ
-complaint name why = codes "b3sum: " ++ shown name ++ codes ": " ++ why ++ line_feed
+complaint name why = prefix ++ shown name ++ codes ": " ++ why ++ line_feed
 
 -- a name that gives no digest fails
 abbrev pub failed_report : List ℕ → List ℕ → Report
@@ -65,10 +67,6 @@ name_script form range name =
 abbrev pub names_script : Form → OutputRange → List (List ℕ) → Script
 names_script form range names = in_turn (map (name_script form range) names)
 
--- the name that keys are read from
-abbrev pub key_name : List ℕ
-key_name = codes "-"
-
 -- what follows the answer to the key: a fault, unless it is 32 bytes
 abbrev pub keyed_script : (Mode → Script) → Answer → Script
 keyed_script next (Err why) = Fail ReadFault
@@ -77,7 +75,7 @@ keyed_script next (Ok key) = if length key == 32 then next (keyed_mode key) else
 -- the script in the mode of a choice of key, which is asked for first where it is one that is read
 abbrev pub with_mode : KeyChoice → (Mode → Script) → Script
 with_mode Plain next = next hash_mode
-with_mode Keyed next = Ask Key key_name (keyed_script next)
+with_mode Keyed next = Ask Key input_name (keyed_script next)
 with_mode (Derive context) next = next (derived_mode (string_bytes context))
 
 -- the script of a run over a list of names

@@ -41,10 +41,6 @@ tally_sum a b = record {
   missing = a.missing + b.missing;
 }
 
--- the sum of all counts, in which a failed line may stand twice
-abbrev pub counted : Tally → ℕ
-counted tally = tally.ok + tally.failed + tally.lists + tally.differing + tally.malformed + tally.missing
-
 -- whether no name was verified: the digest of none was compared
 abbrev pub is_unverified : Tally → Bool
 is_unverified tally = tally.ok == 0 && tally.differing == 0

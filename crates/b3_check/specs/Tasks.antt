@@ -9,19 +9,19 @@ use Rattle.b3_check.specs.declared.fault.RunFault.TheVariants.{WriteFault}
 use Rattle.b3_check.specs.declared.output_range.OutputRange.{OutputRange}
 use Rattle.b3_check.specs.declared.items.Item.{Item}
 use Rattle.b3_check.specs.declared.items.Item.TheVariants.{Say as SayItem, Ask as AskItem}
-use Rattle.b3_check.specs.declared.items.Subject.{Subject}
-use Rattle.b3_check.specs.declared.items.Subject.TheVariants.{Line, Name}
+use Rattle.b3_check.specs.declared.items.Request.{Request}
+use Rattle.b3_check.specs.declared.items.Request.TheVariants.{Line, Name}
 use Rattle.b3_check.specs.declared.options.CheckOptions.{CheckOptions}
 use Rattle.b3_check.specs.declared.options.Form.{Form}
 use Rattle.b3_check.specs.declared.options.Limits.{Limits}
 use Rattle.b3_check.specs.declared.message.Message.{Message}
+use Rattle.b3_check.specs.declared.tally.Tally.{Tally}
 use Rattle.b3_check.specs.Checks.{entry_of, refused_report, verdict_on, verdict_report}
 use Rattle.b3_check.specs.Digests.{digest_script}
-use Rattle.b3_check.specs.Runs.{Broke, Scene, Stopped, Went}
+use Rattle.b3_check.specs.Runs.{Broke, IoState, Stopped, Went}
 use Rattle.b3_check.specs.Scripts.{Answer, AnswersFirst, Given, IsComplete, Report, Script, given_map, in_turn, nothing, report}
 use Rattle.b3_check.specs.Scripts.Script.{Done, Say}
 use Rattle.b3_check.specs.Sums.{failed_report, is_bad_name, name_report, shows_name}
-use Rattle.b3_check.specs.Tallies.{counted}
 
 -- something is said, or a name is asked for and what its digest gives is said
 pub data Task : Type 0 where
@@ -41,33 +41,37 @@ abbrev pub report_of : Message → Report
 report_of said = record { out = said.out.items; err = said.err.items; tally = said.tally }
 
 -- the name that is asked for
-abbrev pub name_asked : Subject → List ℕ
+abbrev pub name_asked : Request → List ℕ
 name_asked (Name form name) = name.now
 name_asked (Line options line) = string_bytes line.name
 
 -- what its digest gives
-abbrev pub subject_report : Subject → Given (List ℕ) → Report
-subject_report (Name form name) digest = name_report form name.now digest
-subject_report (Line options line) digest =
+abbrev pub request_report : Request → Given (List ℕ) → Report
+request_report (Name form name) digest = name_report form name.now digest
+request_report (Line options line) digest =
     verdict_report options (string_bytes line.shown) (verdict_on line.digest digest)
 
 -- a name that is shown can be shown, and a digest that is compared has the length of a line's
-abbrev pub IsFit : ℕ → Subject → Type 0
+abbrev pub IsFit : ℕ → Request → Type 0
 IsFit len (Name form name) = shows_name form ≡ true → is_bad_name name.now ≡ false
 IsFit len (Line options line) = len ≡ 32
 
 -- the task of an item
 abbrev pub task_of : Item → Task
 task_of (SayItem said) = Tell (report_of said)
-task_of (AskItem subject) = Find (name_asked subject) (subject_report subject)
+task_of (AskItem request) = Find (name_asked request) (request_report request)
+
+-- the sum of all counts, in which a failed line may stand twice
+abbrev pub counted : Tally → ℕ
+counted tally = tally.ok + tally.failed + tally.lists + tally.differing + tally.malformed + tally.missing
 
 -- what is said is one line or name, or a name is asked for that is fit
 abbrev pub IsFitItem : ℕ → Item → Type 0
 IsFitItem len (SayItem said) = counted said.tally ≤ 2
-IsFitItem len (AskItem subject) = IsFit len subject
+IsFitItem len (AskItem request) = IsFit len request
 
 -- a report is said, or a sink fails
-abbrev pub Says : {T : Type 0} → Report → Scene → Scene → Result T RunFault → Type 0
+abbrev pub Says : {T : Type 0} → Report → IoState → IoState → Result T RunFault → Type 0
 Says said before after (Ok _) = Went before after [] said
 Says said before after (Err fault) = Broke before after [] said fault × (fault ≡ WriteFault)
 
@@ -100,7 +104,7 @@ name_task form name =
     else Find name (name_report form name)
 
 -- the shelf gave the answers that a script asks for, and its report over them is to be said
-pub record Found (script : Script) (before after : Scene) (message : Message) : Type 0 where
+pub record Found (script : Script) (before after : IoState) (message : Message) : Type 0 where
   pub answers : List Answer
   pub agree : AnswersFirst before.told before.sure script answers
   pub complete : IsComplete script answers
@@ -108,6 +112,6 @@ pub record Found (script : Script) (before after : Scene) (message : Message) : 
   pub is : report_of message ≡ report script answers
 
 -- what a script is to say is found, or a fault stops it
-abbrev pub Finds : Limits → Script → Scene → Scene → Result Message RunFault → Type 0
+abbrev pub Finds : Limits → Script → IoState → IoState → Result Message RunFault → Type 0
 Finds limits script before after (Ok message) = Found script before after message
 Finds limits script before after (Err fault) = Stopped limits script before after fault

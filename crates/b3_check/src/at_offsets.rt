@@ -5,7 +5,7 @@ ghost use Rattle.std.specs.Option.{option_map};
 ghost use Rattle.std.specs.Prelude.{◌≡◌, ◌+◌, ◌*◌, ◌/◌, ◌^◌, ◌<◌, ◌≤◌, IfSome, IsSome, IsTrue, length};
 ghost use Rattle.b3_check.specs.Parts.{HasHashed, IsPartOf};
 ghost use Rattle.b3_check.specs.Reading.{IsOutputOf};
-ghost use Rattle.b3_check.specs.declared.at_offsets.TheConstants.{MOST_LEN, REGION_LEN};
+ghost use Rattle.b3_check.specs.declared.at_offsets.TheConstants.{LEN_LIMIT, REGION_LEN};
 ghost use Rattle.b3_hash.specs.Hashers.{length_of};
 
 use crate::buffer::Buffer;
@@ -25,7 +25,7 @@ const PIECE_CHUNKS: u64 = 256;
 pub const PIECE_LEN: usize = 1 << 18;
 
 /// The spans of a file are pieces from where each worker gets so many.
-const PIECES_A_WORKER: u64 = 4;
+const PIECES_PER_WORKER: u64 = 4;
 
 /// A region has 2^REGION_LEVEL chunks, as many as a board of pieces takes.
 pub const REGION_LEVEL: u32 = 18;
@@ -34,7 +34,7 @@ pub const REGION_LEVEL: u32 = 18;
 pub const REGION_LEN: u64 = 1 << 28;
 
 /// A file that is read at offsets has fewer bytes.
-pub const MOST_LEN: u64 = 1 << 50;
+pub const LEN_LIMIT: u64 = 1 << 50;
 
 /// What is left of the file that a shelf has begun, as a source for a board.
 #[derive(Drop)]
@@ -66,7 +66,7 @@ pub fn hash_at_offsets<R: Threads + Wait + Sync, G: Gate + Sync, S: Shelf + Send
 {
     let workers = pool.workers as usize;
     let len = shelf.len_hint();
-    if workers < 2 || len >= MOST_LEN || !limits.allow(len) {
+    if workers < 2 || len >= LEN_LIMIT || !limits.allow(len) {
         return None;
     }
     let grain = grain_of(len, workers);
@@ -88,7 +88,7 @@ fn grain_of(len: u64, workers: usize) -> u64
     requires { workers ≤ 64 }
     ensures { (0 < result) × (result ≤ 2 ^ 20) }
 {
-    if len / PIECE_LEN as u64 >= workers as u64 * PIECES_A_WORKER {
+    if len / PIECE_LEN as u64 >= workers as u64 * PIECES_PER_WORKER {
         return PIECE_CHUNKS;
     }
     default_grain(chunks(len))
@@ -115,7 +115,7 @@ fn hash_regions<R: Threads + Wait + Sync, G: Gate + Sync, S: Shelf + Send + Sync
     len: u64,
     buffer: &mut [u8],
 ) -> Option<Xof>
-    requires most { len < MOST_LEN }
+    requires most { len < LEN_LIMIT }
     requires whole { IsSome (S.told shelf.now) → length (S.left shelf.now) ≡ len }
     ensures { IfSome result (λ output. IsOutputOf (S.told shelf.now) (S.left shelf.now) mode.now output) }
 {
@@ -139,7 +139,7 @@ fn part_node<R: Threads + Wait + Sync, G: Gate + Sync, S: Shelf + Send + Sync>(
     len: u64,
     buffer: &mut [u8],
 ) -> Option<Node>
-    requires most { offset + len < MOST_LEN }
+    requires most { offset + len < LEN_LIMIT }
     requires there { IsSome (S.told shelf.now) → offset + len ≤ length (S.left shelf.now) }
     ensures { IfSome result (λ node. IsPartOf (S.told shelf.now) (S.left shelf.now) mode.now offset len node) }
 {
@@ -166,7 +166,7 @@ fn part_node<R: Threads + Wait + Sync, G: Gate + Sync, S: Shelf + Send + Sync>(
 fn push_region<S: Shelf>(shelf: &S, mode: &Mode, hasher: &mut Hasher, node: Node)
     requires hashed { HasHashed (S.told shelf.now) (S.left shelf.now) mode.now hasher.old }
     requires part { IsPartOf (S.told shelf.now) (S.left shelf.now) mode.now (length_of hasher.old) REGION_LEN node }
-    requires few { length_of hasher.old < MOST_LEN }
+    requires few { length_of hasher.old < LEN_LIMIT }
     ensures hashed { HasHashed (S.told shelf.now) (S.left shelf.now) mode.now hasher.new }
     ensures len { length_of hasher.new ≡ length_of hasher.old + REGION_LEN }
 {
@@ -186,7 +186,7 @@ fn hash_last_part<R: Threads + Wait + Sync, G: Gate + Sync, S: Shelf + Send + Sy
     requires hashed { HasHashed (S.told shelf.now) (S.left shelf.now) mode.now hasher.now }
     requires reached { length_of hasher.now ≤ len }
     requires last { len < length_of hasher.now + REGION_LEN }
-    requires most { len < MOST_LEN }
+    requires most { len < LEN_LIMIT }
     requires whole { IsSome (S.told shelf.now) → length (S.left shelf.now) ≡ len }
     ensures { IfSome result (λ output. IsOutputOf (S.told shelf.now) (S.left shelf.now) mode.now output) }
 {

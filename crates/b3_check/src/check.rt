@@ -8,12 +8,13 @@ ghost use Rattle.b3_check.specs.Checks.{Entry, check_script, entry_of, lines_scr
 ghost use Rattle.b3_check.specs.Contents.{Contents};
 ghost use Rattle.b3_check.specs.Digests.{line_range};
 ghost use Rattle.b3_check.specs.Faults.{is_write_fault};
-ghost use Rattle.b3_check.specs.Laws.{AsksAll, ChecksRightly, File, IsThere, Knows, ListIsVerified, Says, Wrote, oks_of, sums_of, verdicts_on};
+ghost use Rattle.b3_check.specs.Laws.{AsksAll, ChecksRightly, File, IsThere, IsReliable, ListIsVerified, Says, Wrote, oks_of, sums_of, verdicts_on};
 ghost use Rattle.b3_check.specs.Options.{CanCheck, check_limits};
-ghost use Rattle.b3_check.specs.Devices.{loans, scene_of};
-ghost use Rattle.b3_check.specs.Runs.{HasRoom, Ran, RanSurely, Runs, Stopped, scene};
+ghost use Rattle.b3_check.specs.Devices.{CanCount, Runs, loans, io_state_of};
+ghost use Rattle.b3_check.specs.Runs.{Ran, RanSurely, Stopped, io_state};
 ghost use Rattle.b3_check.specs.Sums.{shows_name};
-ghost use Rattle.b3_check.specs.Tallies.{counted, status_of};
+ghost use Rattle.b3_check.specs.Tallies.{status_of};
+ghost use Rattle.b3_check.specs.Tasks.{counted};
 ghost use Rattle.b3_check.specs.declared.options.Form.{Form};
 
 use crate::devices::Devices;
@@ -71,17 +72,17 @@ pub fn run_check<
     // The texts and the tally are those of one list of answers, in which as many names were not read as
     // the shelf's count rose.
     ensures ok { IfOk result (λ tally. Ran (check_script options.now (map string_bytes lists.now))
-        (scene S.Shelf O.Sink E.Sink shelf.old out.old err.old)
-        (scene S.Shelf O.Sink E.Sink shelf.new out.new err.new) tally) }
+        (io_state S.Shelf O.Sink E.Sink shelf.old out.old err.old)
+        (io_state S.Shelf O.Sink E.Sink shelf.new out.new err.new) tally) }
 
     // Over a shelf that fails nowhere else they are those of the contents.
     ensures sure { IfOk result (λ tally. RanSurely (check_script options.now (map string_bytes lists.now))
-        (scene S.Shelf O.Sink E.Sink shelf.old out.old err.old)
-        (scene S.Shelf O.Sink E.Sink shelf.new out.new err.new) tally) }
+        (io_state S.Shelf O.Sink E.Sink shelf.old out.old err.old)
+        (io_state S.Shelf O.Sink E.Sink shelf.new out.new err.new) tally) }
 
     // Of a list that is known it writes the verdict on each line, where each says something, in order.
     ensures checks { (contents : Contents) (list text : List ℕ) (entries : List Entry)
-        → Knows (S.told shelf.old) (S.is_sure shelf.old) contents
+        → IsReliable (S.told shelf.old) (S.is_sure shelf.old) contents
         → AsksAll options.now → map string_bytes lists.now ≡ list ∷ []
         → contents list ≡ Some text → AllZip Says (lines_of text) entries
         → IfOk result (λ tally. Wrote (verdicts_on contents entries)
@@ -89,7 +90,7 @@ pub fn run_check<
 
     // Of a list that a sum wrote of files that are there it writes that each is ok, in order.
     ensures sums_check { (contents : Contents) (form : Form) (list : List ℕ) (files : List File)
-        → Knows (S.told shelf.old) (S.is_sure shelf.old) contents
+        → IsReliable (S.told shelf.old) (S.is_sure shelf.old) contents
         → AsksAll options.now → map string_bytes lists.now ≡ list ∷ []
         → shows_name form ≡ true → contents list ≡ Some (sums_of form files).out → All (IsThere contents) files
         → IfOk result (λ tally. Wrote (oks_of files)
@@ -102,8 +103,8 @@ pub fn run_check<
     // At a fault both sinks gained beginnings of the texts so far, and the fault has its cause.
     ensures fault { IfErr result (λ fault.
         Stopped (check_limits options.now) (check_script options.now (map string_bytes lists.now))
-        (scene S.Shelf O.Sink E.Sink shelf.old out.old err.old)
-        (scene S.Shelf O.Sink E.Sink shelf.new out.new err.new) fault) }
+        (io_state S.Shelf O.Sink E.Sink shelf.old out.old err.old)
+        (io_state S.Shelf O.Sink E.Sink shelf.new out.new err.new) fault) }
 
     // Over a shelf that tells its contents, whatever fails: each line of each list has the right verdict, `OK` only
     // where its digest is that of the content, or is refused; at a fault a beginning of that is written.
@@ -146,12 +147,12 @@ fn check_lists<R: Threads + Wait + Sync, G: Gate + Sync, S: Shelf + Send + Sync,
 ) -> Result<Tally, RunFault>
     requires options { CanCheck options.now }
     requires lists { length lists.now ≤ 2 ^ 30 }
-    requires room { HasRoom (scene_of S.Shelf O.Sink E.Sink devices.old)
+    requires countable { CanCount (io_state_of S.Shelf O.Sink E.Sink devices.old)
         (length lists.now * (1 + options.now.largest)) }
     ensures run { Runs (check_limits options.now) (check_script options.now (map string_bytes lists.now))
-        (scene_of S.Shelf O.Sink E.Sink devices.old) (scene_of S.Shelf O.Sink E.Sink devices.new) result }
+        (io_state_of S.Shelf O.Sink E.Sink devices.old) (io_state_of S.Shelf O.Sink E.Sink devices.new) result }
     ensures sure { IfOk result (λ tally. RanSurely (check_script options.now (map string_bytes lists.now))
-        (scene_of S.Shelf O.Sink E.Sink devices.old) (scene_of S.Shelf O.Sink E.Sink devices.new) tally) }
+        (io_state_of S.Shelf O.Sink E.Sink devices.old) (io_state_of S.Shelf O.Sink E.Sink devices.new) tally) }
     ensures shelf_count { S.failures devices.new.shelf.now
         ≤ S.failures devices.old.shelf.now + length lists.now * (1 + options.now.largest) }
     ensures loans { loans devices.new ≡ loans devices.old }
@@ -205,10 +206,10 @@ impl<'c, R: Threads + Wait + Sync, G: Gate + Sync> Checker<'c, R, G> {
         lists: &[String],
     ) -> Result<Tally, RunFault>
         requires lists { length lists.now ≤ 2 ^ 30 }
-        requires room { HasRoom (scene_of S.Shelf O.Sink E.Sink devices.old)
+        requires countable { CanCount (io_state_of S.Shelf O.Sink E.Sink devices.old)
             (length lists.now * (1 + self.old.options.largest)) }
         ensures run { Runs (check_limits self.old.options) (lists_script self.old.options (map string_bytes lists.now))
-            (scene_of S.Shelf O.Sink E.Sink devices.old) (scene_of S.Shelf O.Sink E.Sink devices.new) result }
+            (io_state_of S.Shelf O.Sink E.Sink devices.old) (io_state_of S.Shelf O.Sink E.Sink devices.new) result }
         ensures shelf_count { S.failures devices.new.shelf.now
             ≤ S.failures devices.old.shelf.now + length lists.now *
             (1 + self.old.options.largest) }
@@ -229,9 +230,9 @@ impl<'c, R: Threads + Wait + Sync, G: Gate + Sync> Checker<'c, R, G> {
         devices: &mut Devices<'_, '_, '_, S, O, E>,
         name: &str,
     ) -> Result<Tally, RunFault>
-        requires { HasRoom (scene_of S.Shelf O.Sink E.Sink devices.old) (1 + self.old.options.largest) }
+        requires { CanCount (io_state_of S.Shelf O.Sink E.Sink devices.old) (1 + self.old.options.largest) }
         ensures run { Runs (check_limits self.old.options) (list_script self.old.options name.now)
-            (scene_of S.Shelf O.Sink E.Sink devices.old) (scene_of S.Shelf O.Sink E.Sink devices.new) result }
+            (io_state_of S.Shelf O.Sink E.Sink devices.old) (io_state_of S.Shelf O.Sink E.Sink devices.new) result }
         ensures count { IfOk result (λ tally. counted tally ≤ 2 * (1 + self.old.options.largest)) }
         ensures shelf_count { S.failures devices.new.shelf.now
             ≤ S.failures devices.old.shelf.now + (1 + self.old.options.largest) }
@@ -256,10 +257,10 @@ impl<'c, R: Threads + Wait + Sync, G: Gate + Sync> Checker<'c, R, G> {
         name: &str,
     ) -> Result<Tally, RunFault>
         requires text { vec_len self.old.reader.text ≤ self.old.options.largest }
-        requires room { HasRoom (scene_of S.Shelf O.Sink E.Sink devices.old) self.old.options.largest }
+        requires countable { CanCount (io_state_of S.Shelf O.Sink E.Sink devices.old) self.old.options.largest }
         ensures run { Runs (check_limits self.old.options)
             (lines_script self.old.options name.now (Ok self.old.reader.text.items))
-            (scene_of S.Shelf O.Sink E.Sink devices.old) (scene_of S.Shelf O.Sink E.Sink devices.new) result }
+            (io_state_of S.Shelf O.Sink E.Sink devices.old) (io_state_of S.Shelf O.Sink E.Sink devices.new) result }
         ensures count { IfOk result (λ tally. counted tally ≤ 2 * (1 + self.old.options.largest)) }
         ensures shelf_count { S.failures devices.new.shelf.now
             ≤ S.failures devices.old.shelf.now + self.old.options.largest }
@@ -267,8 +268,8 @@ impl<'c, R: Threads + Wait + Sync, G: Gate + Sync> Checker<'c, R, G> {
         ensures options { self.new.options ≡ self.old.options }
     {
         let (alloc, options) = (self.alloc, self.options);
-        let mut agenda = ListLines::new(alloc, options, name, FIRST_LINE, self.reader.text());
-        let mut tally = self.engine.run(devices, &mut agenda)?;
+        let mut work = ListLines::new(alloc, options, name, FIRST_LINE, self.reader.text());
+        let mut tally = self.engine.run(devices, &mut work)?;
         let message = Message::list_end(alloc, &options, name, &tally)?;
         devices.say(&message)?;
         tally.add(&message.tally);

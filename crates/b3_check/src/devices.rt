@@ -1,11 +1,10 @@
 //! Where a run reads and writes.
 
 ghost use Rattle.std.specs.Prelude.{◌≡◌, ◌-◌, ◌^◌, ◌<◌, ◌≤◌, OnOk, vec_len};
+ghost use Rattle.b3_check.specs.Contents.{input_name};
 ghost use Rattle.b3_check.specs.Owing.{SaysOwing, on_out};
 ghost use Rattle.b3_check.specs.Reading.{Answered, Asks, Hashes, key_answer};
-ghost use Rattle.b3_check.specs.Runs.{HasRoom};
 ghost use Rattle.b3_check.specs.Scripts.Kind.{Key, Listed};
-ghost use Rattle.b3_check.specs.Sums.{key_name};
 ghost use Rattle.b3_check.specs.Tasks.{Says, report_of};
 
 use crate::digester::Digester;
@@ -44,10 +43,10 @@ impl<'s, 'o, 'e, S, O, E> Drop for Devices<'s, 'o, 'e, S, O, E> {
 }
 
 impl<'s, 'o, 'e, S: Shelf + Send + Sync, O: Sink, E: Sink> Devices<'s, 'o, 'e, S, O, E> {
-    ghost use Rattle.b3_check.specs.Devices.{loans, scene_of};
+    ghost use Rattle.b3_check.specs.Devices.{CanCount, loans, io_state_of};
 
     // The calls that read say of all three devices what their readers say of the shelf alone, since a run is told by
-    // its scenes.
+    // its I/O states.
 
     /// Hashes the content of a name, and answers whether it can be read, or why not.
     pub fn hash<R: Threads + Wait + Sync, G: Gate + Sync>(
@@ -57,11 +56,11 @@ impl<'s, 'o, 'e, S: Shelf + Send + Sync, O: Sink, E: Sink> Devices<'s, 'o, 'e, S
         name: &str,
         limits: Limits,
     ) -> Result<Result<(), NoContent>, RunFault>
-        requires room { HasRoom (scene_of S.Shelf O.Sink E.Sink self.old) 1 }
+        requires countable { CanCount (io_state_of S.Shelf O.Sink E.Sink self.old) 1 }
         requires some_turns { 0 < limits.turns }
         requires turns { limits.turns ≤ 2 ^ 40 }
-        ensures hashed { Hashes digester.old.range limits name.now (scene_of S.Shelf O.Sink E.Sink self.old)
-            (scene_of S.Shelf O.Sink E.Sink self.new) digester.new.digest.items result }
+        ensures hashed { Hashes digester.old.range limits name.now (io_state_of S.Shelf O.Sink E.Sink self.old)
+            (io_state_of S.Shelf O.Sink E.Sink self.new) digester.new.digest.items result }
         ensures range { digester.new.range ≡ digester.old.range }
         ensures unsaid { self.new.out.now ≡ self.old.out.now }
         ensures loans { loans self.new ≡ loans self.old }
@@ -71,9 +70,9 @@ impl<'s, 'o, 'e, S: Shelf + Send + Sync, O: Sink, E: Sink> Devices<'s, 'o, 'e, S
 
     /// Reads the key, or answers why it cannot be read.
     pub fn read_key(&mut self) -> Result<KeyRead, NoContent>
-        requires { HasRoom (scene_of S.Shelf O.Sink E.Sink self.old) 1 }
-        ensures answered { Answered Key key_name (key_answer result) (scene_of S.Shelf O.Sink E.Sink self.old)
-            (scene_of S.Shelf O.Sink E.Sink self.new) }
+        requires { CanCount (io_state_of S.Shelf O.Sink E.Sink self.old) 1 }
+        ensures answered { Answered Key input_name (key_answer result) (io_state_of S.Shelf O.Sink E.Sink self.old)
+            (io_state_of S.Shelf O.Sink E.Sink self.new) }
         ensures loans { loans self.new ≡ loans self.old }
     {
         KeyRead::read(self.shelf)
@@ -86,10 +85,10 @@ impl<'s, 'o, 'e, S: Shelf + Send + Sync, O: Sink, E: Sink> Devices<'s, 'o, 'e, S
         name: &str,
         limits: Limits,
     ) -> Result<Result<(), NoContent>, RunFault>
-        requires room { HasRoom (scene_of S.Shelf O.Sink E.Sink self.old) 1 }
+        requires countable { CanCount (io_state_of S.Shelf O.Sink E.Sink self.old) 1 }
         requires turns { 0 < limits.turns }
-        ensures asked { Asks Listed limits name.now (scene_of S.Shelf O.Sink E.Sink self.old)
-            (scene_of S.Shelf O.Sink E.Sink self.new) reader.new.text.items result }
+        ensures asked { Asks Listed limits name.now (io_state_of S.Shelf O.Sink E.Sink self.old)
+            (io_state_of S.Shelf O.Sink E.Sink self.new) reader.new.text.items result }
         ensures largest { OnOk result (vec_len reader.new.text ≤ limits.largest) }
         ensures loans { loans self.new ≡ loans self.old }
     {
@@ -98,9 +97,9 @@ impl<'s, 'o, 'e, S: Shelf + Send + Sync, O: Sink, E: Sink> Devices<'s, 'o, 'e, S
 
     /// Writes a report to the two sinks.
     pub fn say(&mut self, message: &Message) -> Result<(), RunFault>
-        requires { HasRoom (scene_of S.Shelf O.Sink E.Sink self.old) 0 }
-        ensures said { Says (report_of message.now) (scene_of S.Shelf O.Sink E.Sink self.old)
-            (scene_of S.Shelf O.Sink E.Sink self.new) result }
+        requires { CanCount (io_state_of S.Shelf O.Sink E.Sink self.old) 0 }
+        ensures said { Says (report_of message.now) (io_state_of S.Shelf O.Sink E.Sink self.old)
+            (io_state_of S.Shelf O.Sink E.Sink self.new) result }
         ensures loans { loans self.new ≡ loans self.old }
     {
         write_all(self.out, message.out.as_slice())?;
@@ -116,9 +115,9 @@ impl<'s, 'o, 'e, S: Shelf + Send + Sync, O: Sink, E: Sink> Devices<'s, 'o, 'e, S
         message: &Message,
         is_more_soon: bool,
     ) -> Result<(), RunFault>
-        requires { HasRoom (scene_of S.Shelf O.Sink E.Sink self.old) 0 }
-        ensures said { SaysOwing (report_of message.now) (scene_of S.Shelf O.Sink E.Sink self.old)
-            (scene_of S.Shelf O.Sink E.Sink self.new) lines.old.items lines.new.items result }
+        requires { CanCount (io_state_of S.Shelf O.Sink E.Sink self.old) 0 }
+        ensures said { SaysOwing (report_of message.now) (io_state_of S.Shelf O.Sink E.Sink self.old)
+            (io_state_of S.Shelf O.Sink E.Sink self.new) lines.old.items lines.new.items result }
         ensures loans { loans self.new ≡ loans self.old }
     {
         lines.extend_from_slice(message.out.as_slice())?;
@@ -133,9 +132,9 @@ impl<'s, 'o, 'e, S: Shelf + Send + Sync, O: Sink, E: Sink> Devices<'s, 'o, 'e, S
 
     /// Writes these lines to `out`.
     pub fn write_lines(&mut self, lines: &[u8]) -> Result<(), RunFault>
-        requires { HasRoom (scene_of S.Shelf O.Sink E.Sink self.old) 0 }
-        ensures said { Says (on_out lines.now) (scene_of S.Shelf O.Sink E.Sink self.old)
-            (scene_of S.Shelf O.Sink E.Sink self.new) result }
+        requires { CanCount (io_state_of S.Shelf O.Sink E.Sink self.old) 0 }
+        ensures said { Says (on_out lines.now) (io_state_of S.Shelf O.Sink E.Sink self.old)
+            (io_state_of S.Shelf O.Sink E.Sink self.new) result }
         ensures loans { loans self.new ≡ loans self.old }
     {
         write_all(self.out, lines)?;

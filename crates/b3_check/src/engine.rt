@@ -2,15 +2,13 @@
 
 ghost use Rattle.std.specs.Prelude.{◌≡◌, ℕ, ◌+◌, ◌*◌, ◌-◌, ◌^◌, ◌<◌, ◌≤◌, ◌∷◌, [], All, true, length, IfOk, IfSome, MatchOption, OnOk};
 ghost use Rattle.b3_check.specs.Prefetch.{IsRight};
-ghost use Rattle.b3_check.specs.Devices.{loans, scene_of};
-ghost use Rattle.b3_check.specs.Runs.{HasRoom, Runs};
-ghost use Rattle.b3_check.specs.Tallies.{counted};
-ghost use Rattle.b3_check.specs.Tasks.{Finds, task_of, task_script, tasks_script};
+ghost use Rattle.b3_check.specs.Devices.{CanCount, Runs, loans, io_state_of};
+ghost use Rattle.b3_check.specs.Tasks.{counted, Finds, task_of, task_script, tasks_script};
 
 use crate::devices::Devices;
 use crate::digester::Digester;
 use crate::fault::RunFault;
-use crate::items::{Agenda, Item};
+use crate::items::{Item, WorkItems};
 use crate::message::Message;
 use crate::name_hasher::{NameHasher, name_hashers};
 use crate::options::Limits;
@@ -26,9 +24,9 @@ use std::sync::Wait;
 use std::thread::Threads;
 
 /// Lines are written once they have so many bytes, where they have waited for others.
-const MOST_LINES: usize = 1 << 16;
+const MAX_LINES_LEN: usize = 1 << 16;
 
-/// Does what an agenda says. It reads, hashes, writes and counts, item after item.
+/// Does work items. It reads, hashes, writes and counts, item after item.
 #[derive(Drop)]
 pub struct Engine<'c, R, G> {
     alloc: Global,
@@ -64,20 +62,20 @@ impl<'c, R: Threads + Wait + Sync, G: Gate + Sync> Engine<'c, R, G> {
         })
     }
 
-    /// Does the items of an agenda, one after the other.
-    pub fn run<'p, S: Shelf + Send + Sync, O: Sink, E: Sink, P: Agenda<'p>>(
+    /// Does the work items, one after the other.
+    pub fn run<'p, S: Shelf + Send + Sync, O: Sink, E: Sink, P: WorkItems<'p>>(
         &mut self,
         devices: &mut Devices<'_, '_, '_, S, O, E>,
-        agenda: &mut P,
+        work: &mut P,
     ) -> Result<Tally, RunFault>
-        requires fits { P.fits agenda.old self.old.digester.range.length ≡ true }
-        requires few { length (P.left agenda.old) < 2 ^ 63 }
-        requires room { HasRoom (scene_of S.Shelf O.Sink E.Sink devices.old) (length (P.left agenda.old)) }
-        ensures run { Runs self.old.limits (tasks_script self.old.digester.range (P.left agenda.old))
-            (scene_of S.Shelf O.Sink E.Sink devices.old) (scene_of S.Shelf O.Sink E.Sink devices.new) result }
-        ensures count { IfOk result (λ tally. counted tally ≤ 2 * length (P.left agenda.old)) }
+        requires fits { P.fits work.old self.old.digester.range.length ≡ true }
+        requires few { length (P.left work.old) < 2 ^ 63 }
+        requires countable { CanCount (io_state_of S.Shelf O.Sink E.Sink devices.old) (length (P.left work.old)) }
+        ensures run { Runs self.old.limits (tasks_script self.old.digester.range (P.left work.old))
+            (io_state_of S.Shelf O.Sink E.Sink devices.old) (io_state_of S.Shelf O.Sink E.Sink devices.new) result }
+        ensures count { IfOk result (λ tally. counted tally ≤ 2 * length (P.left work.old)) }
         ensures shelf_count { S.failures devices.new.shelf.now
-            ≤ S.failures devices.old.shelf.now + length (P.left agenda.old) }
+            ≤ S.failures devices.old.shelf.now + length (P.left work.old) }
         ensures loans { loans devices.new ≡ loans devices.old }
         ensures limits { self.new.limits ≡ self.old.limits }
         ensures range { self.new.digester.range ≡ self.old.digester.range }
@@ -91,9 +89,9 @@ impl<'c, R: Threads + Wait + Sync, G: Gate + Sync> Engine<'c, R, G> {
             self.name_hashers.as_mut_slice(),
             &*devices.shelf,
             &range,
-            agenda,
+            work,
         )? {
-            let is_more_soon = prefetch.knows_next() && lines.len() < MOST_LINES;
+            let is_more_soon = prefetch.knows_next() && lines.len() < MAX_LINES_LEN;
             let message = self.message_of(devices, queued)?;
             devices.say_after(&mut lines, &message, is_more_soon)?;
             tally.add(&message.tally);
@@ -109,9 +107,9 @@ impl<'c, R: Threads + Wait + Sync, G: Gate + Sync> Engine<'c, R, G> {
         queued: Queued<'_>,
     ) -> Result<Message, RunFault>
         requires right { IsRight (S.told devices.old.shelf.now) self.old.digester.range queued }
-        requires room { HasRoom (scene_of S.Shelf O.Sink E.Sink devices.old) 1 }
+        requires countable { CanCount (io_state_of S.Shelf O.Sink E.Sink devices.old) 1 }
         ensures finds { Finds self.old.limits (task_script self.old.digester.range (task_of queued.entry.item))
-            (scene_of S.Shelf O.Sink E.Sink devices.old) (scene_of S.Shelf O.Sink E.Sink devices.new) result }
+            (io_state_of S.Shelf O.Sink E.Sink devices.old) (io_state_of S.Shelf O.Sink E.Sink devices.new) result }
         ensures one { IfOk result (λ message. counted message.tally ≤ 2) }
         ensures shelf_count { S.failures devices.new.shelf.now ≤ S.failures devices.old.shelf.now + 1 }
         ensures unsaid { devices.new.out.now ≡ devices.old.out.now }
@@ -123,18 +121,18 @@ impl<'c, R: Threads + Wait + Sync, G: Gate + Sync> Engine<'c, R, G> {
             item,
             message: known,
         } = queued;
-        let subject = match item {
+        let request = match item {
             Item::Say(message) => return Ok(message),
-            Item::Ask(subject) => subject,
+            Item::Ask(request) => request,
         };
         if let Some(message) = known {
             return Ok(message);
         }
-        let whole = devices.hash(&self.pool, &mut self.digester, subject.name(), self.limits)?;
+        let whole = devices.hash(&self.pool, &mut self.digester, request.name(), self.limits)?;
         let digest = match whole {
             Ok(()) => Ok(self.digester.digest()),
             Err(why) => Err(why),
         };
-        Ok(subject.message(self.alloc, digest)?)
+        Ok(request.message(self.alloc, digest)?)
     }
 }

@@ -4,6 +4,7 @@ ghost use Rattle.std.specs.Prelude.{◌≡◌};
 ghost use Rattle.b3_check.specs.Faults.{fault_text};
 ghost use Rattle.b3_check.specs.declared.fault.RunFault.TheVariants.{Memory, WriteFault};
 
+use crate::prefixed;
 use crate::sink::SinkFailed;
 use std::alloc::AllocError;
 use thiserror::Error;
@@ -32,11 +33,11 @@ impl RunFault {
         ensures { result.now ≡ fault_text self.now }
     {
         match self {
-            RunFault::ReadFault => "b3sum: cannot read the key",
-            RunFault::WriteFault => "b3sum: cannot write",
-            RunFault::Memory => "b3sum: out of memory",
-            RunFault::BadKey => "b3sum: the key is not 32 bytes",
-            RunFault::EndlessInput => "b3sum: endless input",
+            RunFault::ReadFault => prefixed!("cannot read the key"),
+            RunFault::WriteFault => prefixed!("cannot write"),
+            RunFault::Memory => prefixed!("out of memory"),
+            RunFault::BadKey => prefixed!("the key is not 32 bytes"),
+            RunFault::EndlessInput => prefixed!("endless input"),
         }
     }
 }

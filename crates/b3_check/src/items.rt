@@ -2,7 +2,7 @@
 
 ghost use Rattle.std.specs.Prelude.{◌≡◌, ℕ, Bool, List, [], ◌∷◌, true, false, map, string_bytes, IfOk, IfNone, IfSome, MatchOption};
 ghost use Rattle.b3_check.specs.Sums.{is_bad_name, shows_name};
-ghost use Rattle.b3_check.specs.Tasks.{IsFit, IsFitItem, Task, bytes_of, len_of, name_asked, name_task, report_of, subject_report, task_of};
+ghost use Rattle.b3_check.specs.Tasks.{IsFit, IsFitItem, Task, bytes_of, len_of, name_asked, name_task, report_of, request_report, task_of};
 
 use crate::message::Message;
 use crate::options::{CheckOptions, Form};
@@ -16,26 +16,26 @@ pub enum Item<'a> {
     /// Says this.
     Say(Message),
     /// Asks for a name, and says what its digest gives.
-    Ask(Subject<'a>),
+    Ask(Request<'a>),
 }
 
 /// A name that is asked for, and what its digest is for.
 #[derive(Drop)]
-pub enum Subject<'a> {
+pub enum Request<'a> {
     /// The digest is written in this form.
     Name(Form, &'a str),
     /// The digest is compared with that of the line, and said with these options.
     Line(CheckOptions, Line),
 }
 
-impl Subject<'_> {
+impl Request<'_> {
     /// The name that is asked for.
     pub fn name(&self) -> &str
         ensures { result.now ≡ name_asked self.now }
     {
         match self {
-            Subject::Name(_, name) => name,
-            Subject::Line(_, line) => line.name.as_str(),
+            Request::Name(_, name) => name,
+            Request::Line(_, line) => line.name.as_str(),
         }
     }
 
@@ -46,17 +46,17 @@ impl Subject<'_> {
         digest: Result<&[u8], NoContent>,
     ) -> Result<Message, AllocError>
         requires { IsFit (len_of digest) self.now }
-        ensures { IfOk result (λ message. report_of message ≡ subject_report self.now (bytes_of digest.entry)) }
+        ensures { IfOk result (λ message. report_of message ≡ request_report self.now (bytes_of digest.entry)) }
     {
         match self {
-            Subject::Name(form, name) => Message::of_name(alloc, *form, name, digest),
-            Subject::Line(options, line) => Message::of_line(alloc, options, line, digest),
+            Request::Name(form, name) => Message::of_name(alloc, *form, name, digest),
+            Request::Line(options, line) => Message::of_line(alloc, options, line, digest),
         }
     }
 }
 
 /// Items, one after the other.
-pub trait Agenda<'a> {
+pub trait WorkItems<'a> {
     /// What is left to do.
     ghost left: { Self → List Task };
 
@@ -81,8 +81,8 @@ pub struct Names<'a> {
     pub names: &'a [String],
 }
 
-impl<'a> Agenda<'a> for Names<'a> {
-    ghost left = { λ agenda. map (λ name. name_task agenda.form (string_bytes name)) agenda.names.now };
+impl<'a> WorkItems<'a> for Names<'a> {
+    ghost left = { λ work. map (λ name. name_task work.form (string_bytes name)) work.names.now };
 
     ghost fits = { λ _ _. true };
 
@@ -95,7 +95,7 @@ impl<'a> Agenda<'a> for Names<'a> {
         if self.form.shows_name() && is_bad_name(name) {
             return Ok(Some(Item::Say(Message::failed(self.alloc, name, "bad name")?)));
         }
-        Ok(Some(Item::Ask(Subject::Name(self.form, name))))
+        Ok(Some(Item::Ask(Request::Name(self.form, name))))
     }
 }
 

@@ -2,19 +2,16 @@
 
 ghost use Rattle.std.specs.Prelude.{◌≡◌, ◌≢◌, ◌+◌, ◌-◌, ◌^◌, ◌<◌, ◌≤◌, ◌++◌, [], take, length, false, IsTrue, IsSome, IsOk, IfOk, IfErr, MatchOption, is_err, is_none, if◌then◌else◌};
 ghost use Rattle.b3_core.specs.Modes.{keyed_mode};
+ghost use Rattle.b3_check.specs.Contents.{input_name};
 ghost use Rattle.b3_check.specs.Reading.{key_answer, key_bytes};
 ghost use Rattle.b3_check.specs.Scripts.{AgreesWith};
 ghost use Rattle.b3_check.specs.Scripts.Kind.{Key};
-ghost use Rattle.b3_check.specs.Sums.{key_name};
 ghost use Rattle.b3_check.specs.declared.fault.RunFault.TheVariants.{BadKey};
 
 use crate::fault::RunFault;
 use crate::in_order::fill;
-use crate::shelf::{NoContent, Shelf};
+use crate::shelf::{INPUT_NAME, NoContent, Shelf};
 use b3_core::Mode;
-
-/// The name that a key is read from.
-const KEY_NAME: &str = "-";
 
 /// How many bytes a key has.
 const KEY_LEN: usize = 32;
@@ -33,12 +30,12 @@ impl KeyRead {
     /// Reads the key, or answers why it cannot be read. Each read asks for what is missing.
     pub fn read<S: Shelf>(shelf: &mut S) -> Result<KeyRead, NoContent>
         requires { S.failures shelf.old < 2 ^ 64 - 1 }
-        ensures answer { AgreesWith (S.told shelf.old) (S.is_sure shelf.old) Key key_name (key_answer result) }
+        ensures answer { AgreesWith (S.told shelf.old) (S.is_sure shelf.old) Key input_name (key_answer result) }
         ensures count { S.failures shelf.new ≡ S.failures shelf.old + (if is_err result then 1 else 0) }
         ensures told { S.told shelf.new ≡ S.told shelf.old }
         ensures still_sure { S.is_sure shelf.new ≡ S.is_sure shelf.old }
     {
-        shelf.begin(KEY_NAME)?;
+        shelf.begin(INPUT_NAME)?;
         read_key(shelf).ok_or(NoContent::CannotRead)
     }
 

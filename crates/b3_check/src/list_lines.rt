@@ -4,7 +4,7 @@ ghost use Rattle.std.specs.Prelude.{◌≡◌, ◌+◌, ◌^◌, ◌≤◌, ◌=
 ghost use Rattle.b3_lines.specs.Lines.{IsWithin, line_at, lines_of};
 ghost use Rattle.b3_check.specs.Tasks.{line_tasks};
 
-use crate::items::{Agenda, Item, Subject};
+use crate::items::{Item, Request, WorkItems};
 use crate::message::Message;
 use crate::options::CheckOptions;
 use b3_lines::{LineFault, Lines, lines, read_line};
@@ -35,10 +35,10 @@ impl<'t> ListLines<'t> {
         text: &'t [u8],
     ) -> ListLines<'t>
         requires { first + length text.now ≤ 2 ^ 32 }
-        ensures lines { ⟦<ListLines<'t> as Agenda<'t>>⟧.left result
+        ensures lines { ⟦<ListLines<'t> as WorkItems<'t>>⟧.left result
             ≡ line_tasks options name.now first (lines_of text.now) }
-        ensures few { length (⟦<ListLines<'t> as Agenda<'t>>⟧.left result) ≤ length text.now }
-        ensures fits { ⟦<ListLines<'t> as Agenda<'t>>⟧.fits result 32 ≡ true }
+        ensures few { length (⟦<ListLines<'t> as WorkItems<'t>>⟧.left result) ≤ length text.now }
+        ensures fits { ⟦<ListLines<'t> as WorkItems<'t>>⟧.fits result 32 ≡ true }
     {
         ListLines {
             alloc,
@@ -51,9 +51,9 @@ impl<'t> ListLines<'t> {
     }
 }
 
-impl<'t> Agenda<'t> for ListLines<'t> {
-    ghost left = { λ agenda. line_tasks agenda.options agenda.name.now agenda.number
-        (map (line_at agenda.text.now) agenda.lines) };
+impl<'t> WorkItems<'t> for ListLines<'t> {
+    ghost left = { λ work. line_tasks work.options work.name.now work.number
+        (map (line_at work.text.now) work.lines) };
 
     ghost fits = { λ _ len. len == 32 };
 
@@ -64,7 +64,7 @@ impl<'t> Agenda<'t> for ListLines<'t> {
         let number = self.number;
         self.number += 1;
         match read_line(self.alloc, &self.text[start..end]) {
-            Ok(line) => Ok(Some(Item::Ask(Subject::Line(self.options, line)))),
+            Ok(line) => Ok(Some(Item::Ask(Request::Line(self.options, line)))),
             Err(LineFault::Memory) => Err(AllocError),
             Err(fault) => {
                 let message = Message::refused(

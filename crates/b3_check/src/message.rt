@@ -6,11 +6,11 @@ ghost use Rattle.hex.specs.Hex.{encode_lower};
 ghost use Rattle.b3_lines.specs.Writing.{plain, tagged};
 ghost use Rattle.b3_check.specs.Sums.{complaint, digest_text, failed_report, is_bad_name, line_feed, name_report, shows_name};
 ghost use Rattle.b3_check.specs.Checks.{answer_as, err_report, line_reason, list_end, list_end_report, mismatches, refusal, refused_report, unless_silent, unread_list_report, verdict_on, verdict_report, verdict_text, verdict_words, warning, warning_report};
-ghost use Rattle.b3_check.specs.Tallies.{counted};
-ghost use Rattle.b3_check.specs.Tasks.{bytes_of, len_of, report_of};
+ghost use Rattle.b3_check.specs.Tasks.{counted, bytes_of, len_of, report_of};
 
 use crate::judging::{Answer, Verdict, judge};
 use crate::options::{CheckOptions, Form};
+use crate::prefixed;
 use crate::shelf::NoContent;
 use crate::tally::Tally;
 use b3_lines::{Line, LineFault, shown_name, write_line, write_tagged};
@@ -214,7 +214,7 @@ fn complaint(alloc: Global, name: &str, why: &str) -> Result<Vec<u8>, AllocError
         Err(_) => unreachable!(),
     };
     let mut text = Vec::new(alloc);
-    text.extend_from_slice(b"b3sum: ")?;
+    text.extend_from_slice(prefixed!("").as_bytes())?;
     text.extend_from_slice(shown.as_bytes())?;
     text.extend_from_slice(b": ")?;
     text.extend_from_slice(why.as_bytes())?;
@@ -295,7 +295,7 @@ fn refusal(
         return complaint(alloc, list, why.as_str());
     }
     let mut text = Vec::new(alloc);
-    text.extend_from_slice(b"b3sum: ")?;
+    text.extend_from_slice(prefixed!("").as_bytes())?;
     text.extend_from_slice(why.as_bytes())?;
     text.extend_from_slice(b"\n")?;
     Ok(text)
@@ -323,7 +323,7 @@ fn warning(alloc: Global, failed: u64) -> Result<Vec<u8>, AllocError>
         return Ok(text);
     }
     let count = failed.to_string(alloc)?;
-    text.extend_from_slice(b"b3sum: WARNING: ")?;
+    text.extend_from_slice(prefixed!("WARNING: ").as_bytes())?;
     text.extend_from_slice(count.as_bytes())?;
     text.extend_from_slice(mismatches(failed).as_bytes())?;
     text.extend_from_slice(b"\n")?;

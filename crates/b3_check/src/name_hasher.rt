@@ -8,7 +8,7 @@ ghost use Rattle.b3_check.specs.declared.output_range.OutputRange.{OutputRange};
 ghost use Rattle.b3_check.specs.declared.items.Item.{Item};
 
 use crate::at_offsets::PIECE_LEN;
-use crate::items::{Item, Subject};
+use crate::items::{Item, Request};
 use crate::message::Message;
 use crate::output_range::OutputRange;
 use crate::prefetch::Queued;
@@ -62,7 +62,7 @@ impl NameHasher {
         shelf: &S,
         range: &OutputRange,
         queue: &VecDeque<Queued<'_>>,
-        longest: u64,
+        max_len: u64,
         taken: &AtomicUsize,
         done: &AtomicU64,
     )
@@ -79,10 +79,10 @@ impl NameHasher {
             let Some(queued) = queue.get(index) else {
                 return;
             };
-            let Item::Ask(subject) = &queued.item else {
+            let Item::Ask(request) = &queued.item else {
                 continue;
             };
-            let Some((message, cost)) = self.message_of(shelf, range, subject, longest) else {
+            let Some((message, cost)) = self.message_of(shelf, range, request, max_len) else {
                 continue;
             };
             done.fetch_add(cost, Ordering::SeqCst);
@@ -95,18 +95,18 @@ impl NameHasher {
         &mut self,
         shelf: &S,
         range: &OutputRange,
-        subject: &Subject<'_>,
-        longest: u64,
+        request: &Request<'_>,
+        max_len: u64,
     ) -> Option<(Message, u64)>
         requires in_output { range.now.seek + range.now.length ≤ 2 ^ 64 - 1 }
-        requires fit { IsFit range.now.length subject.now }
-        ensures report { IfSome result (λ done. HasReport (S.told shelf.now) range.now subject.now done.0) }
+        requires fit { IsFit range.now.length request.now }
+        ensures report { IfSome result (λ done. HasReport (S.told shelf.now) range.now request.now done.0) }
         ensures found { self.new.found ≡ self.old.found }
     {
-        let (reader, len) = self.output_of(shelf, &range.mode, subject.name(), longest)?;
+        let (reader, len) = self.output_of(shelf, &range.mode, request.name(), max_len)?;
         self.digest.resize(range.length as usize, 0).ok()?;
         range.fill(reader, self.digest.as_mut_slice());
-        let message = subject
+        let message = request
             .message(self.alloc, Ok(self.digest.as_slice()))
             .ok()?;
         let weight = MESSAGE_WEIGHT.saturating_mul(message.out.len() as u64);
@@ -119,7 +119,7 @@ impl NameHasher {
         shelf: &S,
         mode: &Mode,
         name: &str,
-        longest: u64,
+        max_len: u64,
     ) -> Option<(Xof, u64)>
         ensures output { IfSome result (λ done. HasOutput (S.told shelf.now) mode.now name.now done.0) }
         ensures found { self.new.found ≡ self.old.found }
@@ -128,7 +128,7 @@ impl NameHasher {
             self.grow().ok()?;
         }
         let mut hasher = Hasher::new(*mode);
-        if !shelf.hash_whole(name, longest, self.buffer.as_mut_slice(), &mut hasher) {
+        if !shelf.hash_whole(name, max_len, self.buffer.as_mut_slice(), &mut hasher) {
             return None;
         }
         if hasher.len() >= self.buffer.len() as u64 {

@@ -7,7 +7,7 @@ ghost use Rattle.b3_check.specs.Tasks.{task_of};
 ghost use Rattle.b3_check.specs.declared.output_range.OutputRange.{OutputRange};
 
 use crate::buffer::READ_LEN;
-use crate::items::{Agenda, Item};
+use crate::items::{Item, WorkItems};
 use crate::message::Message;
 use crate::name_hasher::{NameHasher, Prefetched};
 use crate::options::Limits;
@@ -24,16 +24,16 @@ use std::thread::Threads;
 
 /// How many items the first round takes: one for each of the most workers, and no more, so that the first line is
 /// not long in coming.
-const FIRST_ROUND: usize = MAX_WORKERS as usize;
+const FIRST_ROUND_ITEMS: usize = MAX_WORKERS as usize;
 
 /// How many items a round takes at most. Each takes twice as many as the one before.
-const MOST_ITEMS: usize = 1_024;
+const MAX_ROUND_ITEMS: usize = 1_024;
 
 /// How many bytes a content may have that is hashed beside others. One worker reads a longer one for too long.
-const LONGEST: u64 = 1 << 25;
+const MAX_CONCURRENT_LEN: u64 = 1 << 25;
 
 /// The same where there are few items for each worker, so that some would have nothing to do meanwhile.
-const LONGEST_OF_FEW: u64 = 1 << 21;
+const MAX_CONCURRENT_LEN_OF_FEW: u64 = 1 << 21;
 
 /// An item that waits to be done, and what is to be said of the name that it asks for, where that is known.
 #[derive(Drop)]
@@ -42,7 +42,7 @@ pub struct Queued<'a> {
     pub message: Option<Message>,
 }
 
-/// The items of an agenda that come next.
+/// The work items that come next.
 #[derive(Drop)]
 pub struct Prefetch<'a> {
     // how many items the next round takes
@@ -50,7 +50,7 @@ pub struct Prefetch<'a> {
     // how many of the first items the last round came to
     tried: usize,
     // how many bytes a content may have that is read in as many reads as a file may take
-    longest: u64,
+    max_len: u64,
     pub queue: VecDeque<Queued<'a>>,
     ghost some: { 0 < round },
 }
@@ -61,9 +61,9 @@ impl<'a> Prefetch<'a> {
         ensures { result.queue.items ≡ [] }
     {
         Prefetch {
-            round: FIRST_ROUND,
+            round: FIRST_ROUND_ITEMS,
             tried: 0,
-            longest: limits
+            max_len: limits
                 .turns
                 .saturating_mul(READ_LEN as u64)
                 .saturating_sub(1),
@@ -71,27 +71,27 @@ impl<'a> Prefetch<'a> {
         }
     }
 
-    /// The next item of the agenda. A round comes first, where none came to it.
-    pub fn next<R: Threads + Wait + Sync, G: Gate + Sync, S: Shelf + Sync, P: Agenda<'a>>(
+    /// The next work item. A round comes first, where none came to it.
+    pub fn next<R: Threads + Wait + Sync, G: Gate + Sync, S: Shelf + Sync, P: WorkItems<'a>>(
         &mut self,
         pool: &Pool<'_, R, G>,
         name_hashers: &mut [NameHasher],
         shelf: &S,
         range: &OutputRange,
-        agenda: &mut P,
+        work: &mut P,
     ) -> Result<Option<Queued<'a>>, AllocError>
         requires right { All (IsRight (S.told shelf.now) range.now) self.old.queue.items }
         requires in_output { range.now.seek + range.now.length ≤ 2 ^ 64 - 1 }
-        requires fits { P.fits agenda.old range.now.length ≡ true }
-        ensures next { IfOk result (λ next. MatchOption next (tasks_then self.old.queue.items (P.left agenda.old) ≡ [])
-            (λ queued. tasks_then self.old.queue.items (P.left agenda.old)
-            ≡ task_of queued.item ∷ tasks_then self.new.queue.items (P.left agenda.new))) }
+        requires fits { P.fits work.old range.now.length ≡ true }
+        ensures next { IfOk result (λ next. MatchOption next (tasks_then self.old.queue.items (P.left work.old) ≡ [])
+            (λ queued. tasks_then self.old.queue.items (P.left work.old)
+            ≡ task_of queued.item ∷ tasks_then self.new.queue.items (P.left work.new))) }
         ensures right { IfOk result (λ next. IfSome next (IsRight (S.told shelf.now) range.now)) }
         ensures all_right { OnOk result (All (IsRight (S.told shelf.now) range.now) self.new.queue.items) }
-        ensures still_fits { OnOk result (P.fits agenda.new range.now.length ≡ true) }
+        ensures still_fits { OnOk result (P.fits work.new range.now.length ≡ true) }
     {
         if self.tried == 0 || self.queue.is_empty() {
-            self.start_round(pool, name_hashers, shelf, range, agenda)?;
+            self.start_round(pool, name_hashers, shelf, range, work)?;
         }
         self.tried = self.tried.saturating_sub(1);
         Ok(self.queue.pop_front())
@@ -103,59 +103,59 @@ impl<'a> Prefetch<'a> {
     }
 
     // Takes items and hashes their names.
-    fn start_round<R: Threads + Wait + Sync, G: Gate + Sync, S: Shelf + Sync, P: Agenda<'a>>(
+    fn start_round<R: Threads + Wait + Sync, G: Gate + Sync, S: Shelf + Sync, P: WorkItems<'a>>(
         &mut self,
         pool: &Pool<'_, R, G>,
         name_hashers: &mut [NameHasher],
         shelf: &S,
         range: &OutputRange,
-        agenda: &mut P,
+        work: &mut P,
     ) -> Result<(), AllocError>
         requires right { All (IsRight (S.told shelf.now) range.now) self.old.queue.items }
         requires in_output { range.now.seek + range.now.length ≤ 2 ^ 64 - 1 }
-        requires fits { P.fits agenda.old range.now.length ≡ true }
-        ensures left { OnOk result (tasks_then self.new.queue.items (P.left agenda.new)
-            ≡ tasks_then self.old.queue.items (P.left agenda.old)) }
-        ensures all { OnOk result (items_of self.new.queue.items ≡ [] → P.left agenda.new ≡ []) }
+        requires fits { P.fits work.old range.now.length ≡ true }
+        ensures left { OnOk result (tasks_then self.new.queue.items (P.left work.new)
+            ≡ tasks_then self.old.queue.items (P.left work.old)) }
+        ensures all { OnOk result (items_of self.new.queue.items ≡ [] → P.left work.new ≡ []) }
         ensures right { OnOk result (All (IsRight (S.told shelf.now) range.now) self.new.queue.items) }
-        ensures still_fits { OnOk result (P.fits agenda.new range.now.length ≡ true) }
+        ensures still_fits { OnOk result (P.fits work.new range.now.length ≡ true) }
     {
         let count = if name_hashers.len() > 1 {
             self.round
         } else {
             1
         };
-        queue_items(&mut self.queue, agenda, count)?;
+        queue_items(&mut self.queue, work, count)?;
         self.tried = hash_round(
             pool,
             name_hashers,
             shelf,
             range,
             &mut self.queue,
-            self.longest,
+            self.max_len,
         );
-        self.round = self.round.saturating_mul(2).min(MOST_ITEMS);
+        self.round = self.round.saturating_mul(2).min(MAX_ROUND_ITEMS);
         Ok(())
     }
 }
 
-// Takes items, until there are so many of them or the agenda has no more.
-fn queue_items<'a, P: Agenda<'a>>(
+// Takes items, until there are so many of them or no more come.
+fn queue_items<'a, P: WorkItems<'a>>(
     queue: &mut VecDeque<Queued<'a>>,
-    agenda: &mut P,
+    work: &mut P,
     count: usize,
 ) -> Result<(), AllocError>
     requires { 0 < count }
-    ensures left { OnOk result (tasks_then queue.new.items (P.left agenda.new)
-        ≡ tasks_then queue.old.items (P.left agenda.old)) }
-    ensures all { OnOk result (items_of queue.new.items ≡ [] → P.left agenda.new ≡ []) }
+    ensures left { OnOk result (tasks_then queue.new.items (P.left work.new)
+        ≡ tasks_then queue.old.items (P.left work.old)) }
+    ensures all { OnOk result (items_of queue.new.items ≡ [] → P.left work.new ≡ []) }
     ensures right { OnOk result ((told : Option Contents) (range : OutputRange)
-        → All (IsRight told range) queue.old.items → P.fits agenda.old range.length ≡ true
+        → All (IsRight told range) queue.old.items → P.fits work.old range.length ≡ true
         → All (IsRight told range) queue.new.items) }
-    ensures still_fits { OnOk result ((len : ℕ) → P.fits agenda.new len ≡ P.fits agenda.old len) }
+    ensures still_fits { OnOk result ((len : ℕ) → P.fits work.new len ≡ P.fits work.old len) }
 {
     'items: while queue.len() < count {
-        let Some(item) = agenda.next()? else {
+        let Some(item) = work.next()? else {
             return Ok(());
         };
         queue.push_back(Queued {
@@ -174,7 +174,7 @@ fn hash_round<R: Threads + Wait + Sync, G: Gate + Sync, S: Shelf + Sync>(
     shelf: &S,
     range: &OutputRange,
     queue: &mut VecDeque<Queued<'_>>,
-    longest: u64,
+    max_len: u64,
 ) -> usize
     requires in_output { range.now.seek + range.now.length ≤ 2 ^ 64 - 1 }
     requires right { All (IsRight (S.told shelf.now) range.now) queue.old.items }
@@ -188,22 +188,26 @@ fn hash_round<R: Threads + Wait + Sync, G: Gate + Sync, S: Shelf + Sync>(
     let count = name_hashers.len().min(queue.len());
     let is_few = queue.len() / 2 < count;
     let name_hashers = &mut name_hashers[..count];
-    let longest = longest.min(if is_few { LONGEST_OF_FEW } else { LONGEST });
-    let tried = hash_beside(pool, name_hashers, shelf, range, &*queue, longest);
+    let max_len = max_len.min(if is_few {
+        MAX_CONCURRENT_LEN_OF_FEW
+    } else {
+        MAX_CONCURRENT_LEN
+    });
+    let tried = hash_concurrently(pool, name_hashers, shelf, range, &*queue, max_len);
     for name_hasher in name_hashers.iter_mut() {
-        note(queue, &mut name_hasher.found);
+        take_found(queue, &mut name_hasher.found);
     }
     tried
 }
 
 // Lets the workers hash names, each in a thread of its own, and answers how many items were taken.
-fn hash_beside<R: Threads + Wait + Sync, G: Gate + Sync, S: Shelf + Sync>(
+fn hash_concurrently<R: Threads + Wait + Sync, G: Gate + Sync, S: Shelf + Sync>(
     pool: &Pool<'_, R, G>,
     name_hashers: &mut [NameHasher],
     shelf: &S,
     range: &OutputRange,
     queue: &VecDeque<Queued<'_>>,
-    longest: u64,
+    max_len: u64,
 ) -> usize
     requires some { 0 < length name_hashers.old }
     requires in_output { range.now.seek + range.now.length ≤ 2 ^ 64 - 1 }
@@ -223,13 +227,13 @@ fn hash_beside<R: Threads + Wait + Sync, G: Gate + Sync, S: Shelf + Sync>(
                 × All (IsRight (S.told shelf.now) range.now) queue.now.items }
             ensures { All (IsFound (S.told shelf.entry.now) range.entry.now (items_of queue.entry.now.items))
                 name_hasher.exit.now.found.items }
-        { name_hasher.hash_names(shelf, range, queue, longest, &taken, &done) },
+        { name_hasher.hash_names(shelf, range, queue, max_len, &taken, &done) },
     );
     taken.load(Ordering::SeqCst).min(queue.len())
 }
 
-// Notes what one worker found, and takes it from there.
-fn note(queue: &mut VecDeque<Queued<'_>>, found: &mut Vec<Prefetched>)
+// Takes what one worker found, and keeps it with its items.
+fn take_found(queue: &mut VecDeque<Queued<'_>>, found: &mut Vec<Prefetched>)
     ensures items { items_of queue.new.items ≡ items_of queue.old.items }
     ensures right { (told : Option Contents) (range : OutputRange)
         → All (IsFound told range (items_of queue.old.items)) found.old.items
@@ -237,12 +241,12 @@ fn note(queue: &mut VecDeque<Queued<'_>>, found: &mut Vec<Prefetched>)
     ensures taken { found.new.items ≡ [] }
 {
     while let Some(one) = found.pop() {
-        note_one(queue, one);
+        set_message(queue, one);
     }
 }
 
-// Notes what was found for one item.
-fn note_one(queue: &mut VecDeque<Queued<'_>>, one: Prefetched)
+// Keeps the message that was found for one item.
+fn set_message(queue: &mut VecDeque<Queued<'_>>, one: Prefetched)
     ensures items { items_of queue.new.items ≡ items_of queue.old.items }
     ensures right { (told : Option Contents) (range : OutputRange)
         → IsFound told range (items_of queue.old.items) one

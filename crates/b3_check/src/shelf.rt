@@ -4,6 +4,9 @@ ghost use Rattle.b3_hash.specs.Hashers.{StandsFor, mode_of};
 
 use b3_hash::Hasher;
 
+/// The name that stands for standard input. A key is read from it.
+pub const INPUT_NAME: &str = "-";
+
 /// Why a name gives no content.
 #[derive(Clone, Copy, Debug, PartialEq, Eq)]
 pub enum NoContent {
@@ -48,28 +51,28 @@ pub trait Shelf {
         ensures told { told self.new ≡ told self.old }
         ensures still_sure { is_sure self.new ≡ is_sure self.old };
 
-    /// Gives the next bytes of the file: how many of them are in `room`, at least one, or 0 at the
+    /// Gives the next bytes of the file: how many of them are in `buffer`, at least one, or 0 at the
     /// file's end. Where no file is begun it gives none.
-    fn read(&mut self, room: &mut [u8]) -> Result<usize, CannotRead>
+    fn read(&mut self, buffer: &mut [u8]) -> Result<usize, CannotRead>
         requires count { failures self.old < 2 ^ 64 - 1 }
-        requires room { 0 < length room.old }
+        requires buffer { 0 < length buffer.old }
         ensures count { failures self.new ≡ failures self.old + (if is_err result then 1 else 0) }
         ensures begun { is_begun self.new ≡ (is_begun self.old && is_ok result) }
-        ensures within { IfOk result (λ n. n ≤ length room.old) }
+        ensures within { IfOk result (λ n. n ≤ length buffer.old) }
         ensures bytes { IsSome (told self.old)
-            → IfOk result (λ n. Gives (left self.old) (take n room.new) (left self.new)) }
+            → IfOk result (λ n. Gives (left self.old) (take n buffer.new) (left self.new)) }
         ensures not_begun { is_begun self.old ≡ false → IfOk result (λ n. n ≡ 0) }
         ensures sure { IsTrue (is_sure self.old) → IsOk result }
         ensures told { told self.new ≡ told self.old }
         ensures still_sure { is_sure self.new ≡ is_sure self.old };
 
     /// Has the whole content of a name hashed by `_hasher`, through `_buffer`, and answers whether it has: there is a
-    /// plain file of this name, of at most `_longest` bytes, which is soon read. It changes nothing, so that many
+    /// plain file of this name, of at most `_max_len` bytes, which is soon read. It changes nothing, so that many
     /// threads may ask at once.
     fn hash_whole(
         &self,
         _name: &str,
-        _longest: u64,
+        _max_len: u64,
         _buffer: &mut [u8],
         _hasher: &mut Hasher,
     ) -> bool

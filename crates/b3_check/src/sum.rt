@@ -3,11 +3,11 @@
 ghost use Rattle.std.specs.Prelude.{◌≡◌, ◌+◌, ◌-◌, ◌^◌, ◌<◌, ◌≤◌, List, All, Some, map, string_bytes, length, IfOk, IfErr, if◌then◌else◌};
 ghost use Rattle.b3_check.specs.Contents.{Contents};
 ghost use Rattle.b3_check.specs.Faults.{is_write_fault};
-ghost use Rattle.b3_check.specs.Laws.{AsksDigests, File, IsThere, Knows, SumsRightly, WritesAll, Wrote, sums_of};
+ghost use Rattle.b3_check.specs.Laws.{AsksDigests, File, IsThere, IsReliable, SumsRightly, WritesAll, Wrote, sums_of};
 ghost use Rattle.b3_check.specs.Options.{CanRun, limits_of};
 ghost use Rattle.b3_check.specs.Reading.{FindsMode};
-ghost use Rattle.b3_check.specs.Devices.{loans, scene_of};
-ghost use Rattle.b3_check.specs.Runs.{HasRoom, Ran, RanSurely, Runs, Stopped, scene};
+ghost use Rattle.b3_check.specs.Devices.{CanCount, Runs, loans, io_state_of};
+ghost use Rattle.b3_check.specs.Runs.{Ran, RanSurely, Stopped, io_state};
 ghost use Rattle.b3_check.specs.Sums.{keys_asked, sum_script};
 ghost use Rattle.b3_check.specs.Tallies.{status_of};
 ghost use Rattle.b3_check.specs.declared.options.Form.TheVariants.{Raw};
@@ -54,16 +54,17 @@ pub fn run_sum<R: Threads + Wait + Sync, S: Shelf + Send + Sync, O: Sink, E: Sin
     // The texts and the tally are those of one list of answers, in which as many names were not read as
     // the shelf's count rose.
     ensures ok { IfOk result (λ tally. Ran (sum_script options.now (map string_bytes names.now))
-        (scene S.Shelf O.Sink E.Sink shelf.old out.old err.old)
-        (scene S.Shelf O.Sink E.Sink shelf.new out.new err.new) tally) }
+        (io_state S.Shelf O.Sink E.Sink shelf.old out.old err.old)
+        (io_state S.Shelf O.Sink E.Sink shelf.new out.new err.new) tally) }
 
     // Over a shelf that fails nowhere else they are those of the contents.
     ensures sure { IfOk result (λ tally. RanSurely (sum_script options.now (map string_bytes names.now))
-        (scene S.Shelf O.Sink E.Sink shelf.old out.old err.old)
-        (scene S.Shelf O.Sink E.Sink shelf.new out.new err.new) tally) }
+        (io_state S.Shelf O.Sink E.Sink shelf.old out.old err.old)
+        (io_state S.Shelf O.Sink E.Sink shelf.new out.new err.new) tally) }
 
     // Of files that are known it writes the line of each, or its digest, in order.
-    ensures sums { (contents : Contents) (files : List File) → Knows (S.told shelf.old) (S.is_sure shelf.old) contents
+    ensures sums { (contents : Contents) (files : List File)
+        → IsReliable (S.told shelf.old) (S.is_sure shelf.old) contents
         → AsksDigests options.now → map string_bytes names.now ≡ map (λ file. file.name) files
         → All (IsThere contents) files → IfOk result (λ tally. Wrote (sums_of options.now.form files)
         (O.held out.old) (O.held out.new) (E.held err.old) (E.held err.new) tally) }
@@ -71,8 +72,8 @@ pub fn run_sum<R: Threads + Wait + Sync, S: Shelf + Send + Sync, O: Sink, E: Sin
     // At a fault both sinks gained beginnings of the texts so far, and the fault has its cause.
     ensures fault { IfErr result (λ fault.
         Stopped (limits_of options.now) (sum_script options.now (map string_bytes names.now))
-        (scene S.Shelf O.Sink E.Sink shelf.old out.old err.old)
-        (scene S.Shelf O.Sink E.Sink shelf.new out.new err.new) fault) }
+        (io_state S.Shelf O.Sink E.Sink shelf.old out.old err.old)
+        (io_state S.Shelf O.Sink E.Sink shelf.new out.new err.new) fault) }
 
     // Over a shelf that tells its contents, whatever fails: each name has the line of its content's digest, or a
     // complaint in its place, and no more is written; at a fault a beginning of that.
@@ -113,11 +114,11 @@ fn sum_names<R: Threads + Wait + Sync, G: Gate + Sync, S: Shelf + Send + Sync, O
 ) -> Result<Tally, RunFault>
     requires options { CanRun options.now }
     requires names { length names.now ≤ 2 ^ 30 }
-    requires room { HasRoom (scene_of S.Shelf O.Sink E.Sink devices.old) (1 + length names.now) }
+    requires countable { CanCount (io_state_of S.Shelf O.Sink E.Sink devices.old) (1 + length names.now) }
     ensures run { Runs (limits_of options.now) (sum_script options.now (map string_bytes names.now))
-        (scene_of S.Shelf O.Sink E.Sink devices.old) (scene_of S.Shelf O.Sink E.Sink devices.new) result }
+        (io_state_of S.Shelf O.Sink E.Sink devices.old) (io_state_of S.Shelf O.Sink E.Sink devices.new) result }
     ensures sure { IfOk result (λ tally. RanSurely (sum_script options.now (map string_bytes names.now))
-        (scene_of S.Shelf O.Sink E.Sink devices.old) (scene_of S.Shelf O.Sink E.Sink devices.new) tally) }
+        (io_state_of S.Shelf O.Sink E.Sink devices.old) (io_state_of S.Shelf O.Sink E.Sink devices.new) tally) }
     ensures shelf_count { S.failures devices.new.shelf.now
         ≤ S.failures devices.old.shelf.now + keys_asked options.now.key + length names.now }
     ensures loans { loans devices.new ≡ loans devices.old }
@@ -129,12 +130,12 @@ fn sum_names<R: Threads + Wait + Sync, G: Gate + Sync, S: Shelf + Send + Sync, O
         length: options.length,
     };
     let mut engine = Engine::new(alloc, pool, range, options.limits())?;
-    let mut agenda = Names {
+    let mut work = Names {
         alloc,
         form: options.form,
         names,
     };
-    engine.run(devices, &mut agenda)
+    engine.run(devices, &mut work)
 }
 
 // The mode of a choice of key, which may have to be read.
@@ -142,9 +143,9 @@ fn find_mode<S: Shelf + Send + Sync, O: Sink, E: Sink>(
     devices: &mut Devices<'_, '_, '_, S, O, E>,
     key: &KeyChoice,
 ) -> Result<Mode, RunFault>
-    requires { HasRoom (scene_of S.Shelf O.Sink E.Sink devices.old) 1 }
+    requires { CanCount (io_state_of S.Shelf O.Sink E.Sink devices.old) 1 }
     ensures found { FindsMode key.now
-        (scene_of S.Shelf O.Sink E.Sink devices.old) (scene_of S.Shelf O.Sink E.Sink devices.new) result }
+        (io_state_of S.Shelf O.Sink E.Sink devices.old) (io_state_of S.Shelf O.Sink E.Sink devices.new) result }
     ensures loans { loans devices.new ≡ loans devices.old }
 {
     match key {

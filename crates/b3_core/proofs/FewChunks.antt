@@ -1,5 +1,5 @@
 -- The chaining values of the chunks of an input, in a list, and the top of the tree over them.
-use Rattle.std.proofs.Common.{◌≡◌, ℕ, ◌+◌, ◌*◌, ◌<◌, ◌≤◌, ◌⊎◌, ◌≢◌, inl, inr, List, [], length, take, drop, get_or, set}
+use Rattle.std.proofs.Common.{◌≡◌, ℕ, ◌+◌, ◌*◌, ◌<◌, ◌≤◌, inl, inr, List, [], length, take, drop, get_or, set}
 use Rattle.std.proofs.Common.{sym, ap, ◌∙◌, arith, add-zero}
 use Rattle.std.proofs.lemmas.Bool.{cases_eq}
 use Rattle.std.proofs.lemmas.List.{take_all, get_or-take, get_or-drop, length-take, length-drop, get_or-set_same}
@@ -53,20 +53,6 @@ each-full mode first full n bytes chainings each n_is j lt =
     let below : j < n = omega (arith, length-take n chainings) in
     get_or-take n chainings j [] below ∙ each j (omega arith)
 
-each-last_at : (mode : Mode) (first full : ℕ) (bytes : List ℕ) (chainings : List (List ℕ)) (last : List ℕ)
-    → full < length chainings
-    → ((j : ℕ) → j < full → get_or chainings j [] ≡ chunk_chaining mode first bytes j)
-    → last ≡ chaining (chunk_node mode (first + full) (drop (1024 * full) bytes))
-    → length bytes ≤ 1024 * full + 1024
-    → (j : ℕ) → j < full + 1 → (j ≡ full) ⊎ (j ≢ full)
-    → get_or (set chainings full last) j [] ≡ chunk_chaining mode first bytes j
-each-last_at mode first full bytes chainings last room each last_is short j lt (inl same) =
-    let rest : length (drop (1024 * full) bytes) ≤ 1024 = omega (arith, length-drop (1024 * full) bytes) in
-    rw same (get_or-set_same chainings full last [] room ∙ last_is
-    ∙ ap (λ xs. chaining (chunk_node mode (first + full) xs)) (sym (take_all 1024 (drop (1024 * full) bytes) rest)))
-each-last_at mode first full bytes chainings last room each last_is short j lt (inr other) =
-    get_or-set_other chainings full j last [] other ∙ each j (omega (arith, other))
-
 -- full chunks, and a short one at the end
 pub each-last : (mode : Mode) (first full n : ℕ) (bytes : List ℕ) (chainings : List (List ℕ)) (last : List ℕ)
     → full < length chainings
@@ -77,5 +63,12 @@ pub each-last : (mode : Mode) (first full n : ℕ) (bytes : List ℕ) (chainings
     → AreChunkChainings mode first bytes (take n (set chainings full last))
 each-last mode first full n bytes chainings last room each last_is short n_is j lt =
     let below : j < n = omega (arith, length-take n (set chainings full last)) in
-    get_or-take n (set chainings full last) j [] below
-    ∙ each-last_at mode first full bytes chainings last room each last_is short j (omega arith) (cases_eq j full)
+    let rest : length (drop (1024 * full) bytes) ≤ 1024 = omega (arith, length-drop (1024 * full) bytes) in
+    let at : get_or (set chainings full last) j [] ≡ chunk_chaining mode first bytes j = elim (cases_eq j full) [
+      | inl same ↦
+          rw same (get_or-set_same chainings full last [] room ∙ last_is
+          ∙ ap (λ xs. chaining (chunk_node mode (first + full) xs))
+          (sym (take_all 1024 (drop (1024 * full) bytes) rest)))
+      | inr other ↦ get_or-set_other chainings full j last [] other ∙ each j (omega (arith, other))
+    ] in
+    get_or-take n (set chainings full last) j [] below ∙ at

@@ -11,11 +11,12 @@ use Rattle.std.proofs.lemmas.Bool.{ne_eqb}
 use Rattle.b3_core.specs.Words.{word_at, words_of}
 use Rattle.b3_core.specs.Compression.{compress}
 use Rattle.b3_core.specs.Nodes.{chaining}
-use Rattle.b3_core.specs.Chunks.{block_flags, carried, chunk_at, chunk_node, last_block, last_block_node}
+use Rattle.b3_core.specs.Chunks.{block_flags, chaining_value_at, chunk_at, chunk_node, last_block_index}
+use Rattle.b3_core.specs.Chunks.{last_block_node}
 use Rattle.b3_core.specs.declared.modes.Mode.{Mode}
 use Rattle.b3_core.specs.declared.nodes.Node.{Node}
-use Rattle.b3_core.proofs.ChunkNodes.{block_node-whole, carried-suc, chunk_node-last}
-use Rattle.b3_core.specs.Lanes.{full_chunk_flags, lane, word_from}
+use Rattle.b3_core.proofs.ChunkNodes.{block_node-whole, chaining_value_at-suc, chunk_node-last}
+use Rattle.b3_core.specs.Lanes.{full_chunk_flags, lane, word_at_offset}
 use Rattle.b3_core.proofs.Lists.{below_eight}
 
 -- row j and row j + 4, four words each
@@ -42,9 +43,9 @@ exchanged-lanes f =
     refl refl refl refl refl refl refl refl
 
 -- a word of a block
-pub word_from-block : (bytes : List ℕ) (start place n : ℕ) → n < 16 → place ≡ start + 4 * n
-    → word_from bytes place ≡ word_at (take 64 (drop start bytes)) n
-word_from-block bytes start place n n_in is =
+pub word_at_offset-block : (bytes : List ℕ) (start place n : ℕ) → n < 16 → place ≡ start + 4 * n
+    → word_at_offset bytes place ≡ word_at (take 64 (drop start bytes)) n
+word_at_offset-block bytes start place n n_in is =
     let byte : (p q : ℕ) → q < 64 → p ≡ start + q → get_or bytes p 0 ≡ get_or (take 64 (drop start bytes)) q 0 =
     λ p q q_in p_is. ap (λ i. get_or bytes i 0) p_is
     ∙ sym (get_or-take 64 (drop start bytes) q 0 q_in ∙ get_or-drop start bytes q 0) in
@@ -89,12 +90,13 @@ length-block_at chunk k full k_in =
 -- the chaining value after k blocks of a full chunk
 abbrev pub after_blocks : Mode → ℕ → List ℕ → ℕ → List ℕ
 after_blocks mode number chunk k =
-    if nat_eq k 16 then chaining (chunk_node mode number chunk) else carried mode number chunk k
+    if nat_eq k 16 then chaining (chunk_node mode number chunk) else chaining_value_at mode number chunk k
 
-after_blocks-carried : (mode : Mode) (number : ℕ) (chunk : List ℕ) (k : ℕ) → k ≢ 16
-    → after_blocks mode number chunk k ≡ carried mode number chunk k
-after_blocks-carried mode number chunk k inner =
-    ap (λ b. if b then chaining (chunk_node mode number chunk) else carried mode number chunk k) (ne_eqb k 16 inner)
+after_blocks-chaining_value_at : (mode : Mode) (number : ℕ) (chunk : List ℕ) (k : ℕ) → k ≢ 16
+    → after_blocks mode number chunk k ≡ chaining_value_at mode number chunk k
+after_blocks-chaining_value_at mode number chunk k inner =
+    ap (λ b. if b then chaining (chunk_node mode number chunk) else chaining_value_at mode number chunk k)
+    (ne_eqb k 16 inner)
 
 -- after one more block
 pub after_blocks-suc : (mode : Mode) (number : ℕ) (chunk : List ℕ) (k : ℕ) (h m : List ℕ) → length chunk ≡ 1024
@@ -105,18 +107,18 @@ pub after_blocks-suc : (mode : Mode) (number : ℕ) (chunk : List ℕ) (k : ℕ)
 unfolding last_block_node
 after_blocks-suc mode number chunk k h m full k_in (inl last) h_is m_is =
     let block = take 64 (drop (64 * k) chunk) in
-    let is_last : k ≡ last_block chunk = omega (arith, full, last) in
+    let is_last : k ≡ last_block_index chunk = omega (arith, full, last) in
     let flags = ap (full_chunk_flags mode) last ∙ sym (ap (λ i. bit_or (block_flags mode i) 2) last) in
     ap (λ d. take 8 (compress h m number 64 d)) flags
     ∙ ap (λ (node : Node). chaining (record node { d = bit_or node.d 2 }))
     (block_node-whole mode number k h m block (length-block_at chunk k full k_in) m_is)
     ∙ ap chaining (chunk_node-last mode number chunk k k 64 h is_last is_last (omega (arith, full, last))
-    (h_is ∙ after_blocks-carried mode number chunk k (λ is. omega (arith, is, k_in))))
+    (h_is ∙ after_blocks-chaining_value_at mode number chunk k (λ is. omega (arith, is, k_in))))
     ∙ sym (ap (λ i. after_blocks mode number chunk (i + 1)) last)
 after_blocks-suc mode number chunk k h m full k_in (inr inner) h_is m_is =
     let block = take 64 (drop (64 * k) chunk) in
     ap (λ b. take 8 (compress h m number 64 (if b then bit_or mode.flag 2 else block_flags mode k))) (ne_eqb k 15 inner)
     ∙ ap chaining (block_node-whole mode number k h m block (length-block_at chunk k full k_in) m_is)
-    ∙ carried-suc mode number chunk k 64 h refl
-    (h_is ∙ after_blocks-carried mode number chunk k (λ is. omega (arith, is, k_in)))
-    ∙ sym (after_blocks-carried mode number chunk (k + 1) (λ is. inner (omega (arith, is))))
+    ∙ chaining_value_at-suc mode number chunk k 64 h refl
+    (h_is ∙ after_blocks-chaining_value_at mode number chunk k (λ is. omega (arith, is, k_in)))
+    ∙ sym (after_blocks-chaining_value_at mode number chunk (k + 1) (λ is. inner (omega (arith, is))))

@@ -4,7 +4,7 @@ use Rattle.std.specs.List.{range_with_len}
 use Rattle.std.specs.Simd.Lanes.{pick_l}
 use Rattle.std.proofs.lemmas.List.{get_or-map, get_or_append_left, get_or-append_right}
 use Rattle.std.proofs.lemmas.List.FromFn.{get_or-map-range_with_len, length-map-range_with_len}
-use Rattle.b3_core.specs.Lanes.{AreWide, lane}
+use Rattle.b3_core.specs.Lanes.{AreVectors, lane}
 use Rattle.b3_core.proofs.Lists.{map-below}
 use Rattle.b3_core.proofs.LaneWords.{lane-elements}
 
@@ -16,7 +16,7 @@ picked f xs j lt =
     ∙ ap (λ k. get_or xs k 0) (get_or-map-range_with_len f 0 8 j j 0 lt (omega arith))
 
 -- a lane of such vectors, where it is taken from the first of the two
-pub lane-picked_front : (f : ℕ → ℕ) (left right : List (List ℕ)) (j : ℕ) → AreWide 8 left → j < 8 → f j < 8
+pub lane-picked_front : (f : ℕ → ℕ) (left right : List (List ℕ)) (j : ℕ) → AreVectors 8 left → j < 8 → f j < 8
     → map (λ i. get_or (pick_l 0 (get_or left i [] ++ get_or right i []) (map f (range_with_len 0 8))) j 0)
     (range_with_len 0 8)
     ≡ lane (f j) left
@@ -28,7 +28,8 @@ lane-picked_front f left right j wide lt low =
     ∙ sym (lane-elements (f j) 8 left wide.0)
 
 -- and where it is taken from the second
-pub lane-picked_back : (f : ℕ → ℕ) (left right : List (List ℕ)) (j k : ℕ) → AreWide 8 left → AreWide 8 right → j < 8
+pub lane-picked_back : (f : ℕ → ℕ) (left right : List (List ℕ)) (j k : ℕ) → AreVectors 8 left
+    → AreVectors 8 right → j < 8
     → f j ≡ 8 + k
     → map (λ i. get_or (pick_l 0 (get_or left i [] ++ get_or right i []) (map f (range_with_len 0 8))) j 0)
     (range_with_len 0 8)

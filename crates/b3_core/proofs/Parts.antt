@@ -1,15 +1,15 @@
 -- Parts of an input, each of as many chunks, and the tops of the trees over them.
-use Rattle.std.proofs.Common.{◌≡◌, ℕ, suc, ◌+◌, ◌-◌, ◌*◌, ◌^◌, ◌<◌, ◌≤◌, List, length, take, drop, sym, ap, ◌∙◌, ◌⊎◌}
+use Rattle.std.proofs.Common.{◌≡◌, ℕ, suc, ◌+◌, ◌-◌, ◌*◌, ◌^◌, ◌<◌, ◌≤◌, List, length, take, drop, sym, ap, ◌∙◌}
 use Rattle.std.proofs.Common.{inl, inr, arith}
 use Rattle.std.proofs.Math.Nat.{pow-suc}
-use Rattle.std.proofs.lemmas.Nat.{mul-le}
+use Rattle.std.proofs.lemmas.Nat.{column_fits, pow_pos}
 use Rattle.std.proofs.lemmas.List.{length-take, length-take-le, length-drop, take_all, drop-drop, drop-take, take-take}
 use Rattle.std.proofs.lemmas.Bool.{cases_lt}
 use Rattle.b3_core.specs.Nodes.{chaining}
 use Rattle.b3_core.specs.Tree.{parent_node, top}
 use Rattle.b3_core.specs.Lanes.{chunk_chaining, part}
 use Rattle.b3_core.specs.declared.modes.Mode.{Mode}
-use Rattle.b3_core.proofs.Subtrees.{lt-pow, top-chunk, top-joined}
+use Rattle.b3_core.proofs.Subtrees.{top-chunk, top-joined}
 
 -- a part within the front
 pub part-front : (w j n : ℕ) (xs : List ℕ) → 1024 * w * j + 1024 * w ≤ n → part w j (take n xs) ≡ part w j xs
@@ -39,10 +39,6 @@ part-right w j xs =
     ∙ drop-take (1024 * w) (1024 * w) (drop (1024 * (w * 2) * j) xs)
     ∙ ap (take (1024 * w)) (drop-drop (1024 * w) (1024 * (w * 2) * j) xs ∙ ap (λ m. drop m xs) at)
 
--- a power of two is not zero
-pub some_pow : (level : ℕ) → 1 ≤ 2 ^ level
-some_pow level = omega (arith, lt-pow level)
-
 -- the top over a full part is the parent of the tops over its halves
 pub part-joined : (level j : ℕ) (mode : Mode) (first : ℕ) (xs : List ℕ)
     → 1024 * 2 ^ suc level * j + 1024 * 2 ^ suc level ≤ length xs
@@ -52,7 +48,7 @@ pub part-joined : (level j : ℕ) (mode : Mode) (first : ℕ) (xs : List ℕ)
 part-joined level j mode first xs fits =
     let w : ℕ = 2 ^ level in
     let twice : 2 ^ suc level ≡ w * 2 = pow-suc 2 level in
-    let some : 1 ≤ w = some_pow level in
+    let some = pow_pos level in
     let long : length (part (2 ^ suc level) j xs) ≡ 1024 * 2 ^ suc level =
     length-take-le (1024 * 2 ^ suc level) (drop (1024 * 2 ^ suc level * j) xs)
     (omega (arith, length-drop (1024 * 2 ^ suc level * j) xs)) in
@@ -72,12 +68,6 @@ part-joined level j mode first xs fits =
 abbrev pub part_chaining : ℕ → Mode → ℕ → List ℕ → ℕ → List ℕ
 part_chaining level mode first xs j = chaining (top mode (first + 2 ^ level * j) (part (2 ^ level) j xs))
 
--- part i of k parts of w ends where all of them end, or before
-scaled : (w i k : ℕ) → i < k → w * i + w ≤ w * k
-scaled w i k lt =
-    let more : w * (i + 1) ≤ w * k = mul-le w (i + 1) w k (omega arith) (omega arith) in
-    omega (arith, more)
-
 -- one level up: the parents of parts two by two
 pub parts-up : (level n : ℕ) (mode : Mode) (first : ℕ) (xs : List ℕ) (e : ℕ → List ℕ)
     → 1024 * 2 ^ suc level * n ≤ length xs
@@ -87,8 +77,8 @@ pub parts-up : (level n : ℕ) (mode : Mode) (first : ℕ) (xs : List ℕ) (e : 
 parts-up level n mode first xs e fits each j lt =
     let left_is = each (2 * j) (omega arith) in
     let right_is = each (2 * j + 1) (omega arith) in
-    let within : 1024 * 2 ^ suc level * j + 1024 * 2 ^ suc level ≤ length xs =
-    omega (arith, scaled (1024 * 2 ^ suc level) j n lt) in
+    let w : ℕ = 1024 * 2 ^ suc level in
+    let within : w * j + w ≤ length xs = omega (arith, column_fits w j w n lt (omega arith)) in
     (λ i. chaining (parent_node mode (left_is i) (right_is i)))
     ∙ ap chaining (sym (part-joined level j mode first xs within))
 
@@ -97,7 +87,8 @@ pub halves-front : (level : ℕ) (mode : Mode) (first n : ℕ) (xs : List ℕ) (
     → part_chaining level mode first (take n xs) j ≡ part_chaining level mode first xs j
 halves-front level mode first n xs j lt n_is =
     let w : ℕ = 2 ^ level in
-    let within : 1024 * w * j + 1024 * w ≤ n = omega (arith, n_is, scaled (1024 * w) j 8 lt) in
+    let within : 1024 * w * j + 1024 * w ≤ n =
+    omega (arith, n_is, column_fits (1024 * w) j (1024 * w) 8 lt (omega arith)) in
     ap (λ p. chaining (top mode (first + w * j) p)) (part-front w j n xs within)
 
 pub halves-back : (level : ℕ) (mode : Mode) (first next n : ℕ) (xs : List ℕ) (j : ℕ) → n ≡ 8192 * 2 ^ level
@@ -147,37 +138,6 @@ halved level some =
     let up : level ≡ suc (level - 1) = omega arith in
     ap (λ l. 2 ^ l) up ∙ pow-suc 2 (level - 1)
 
--- one of those parents, in the front half or in the back half
-subtrees-joined_at : (level : ℕ) (mode : Mode) (first next n : ℕ) (xs : List ℕ) (left right up : ℕ → List ℕ)
-    → length xs ≡ 16384 * 2 ^ level → n ≡ 8192 * 2 ^ level → next ≡ first + 8 * 2 ^ level
-    → ((j : ℕ) → j < 8 → left j ≡ part_chaining level mode first (take n xs) j)
-    → ((j : ℕ) → j < 8 → right j ≡ part_chaining level mode next (drop n xs) j)
-    → ((j : ℕ) → j < 4 → up j ≡ chaining (parent_node mode (left (2 * j)) (left (2 * j + 1))))
-    → ((j : ℕ) → j < 4 → up (j + 4) ≡ chaining (parent_node mode (right (2 * j)) (right (2 * j + 1))))
-    → (j : ℕ) → j < 8 → (j < 4) ⊎ (4 ≤ j) → up j ≡ part_chaining (suc level) mode first xs j
-subtrees-joined_at level mode first next n xs left right up long n_is next_is left_is right_is front back j lt
-    (inl low) =
-    let a = left_is (2 * j) (omega arith) ∙ halves-front level mode first n xs (2 * j) (omega arith) n_is in
-    let b = left_is (2 * j + 1) (omega arith) ∙ halves-front level mode first n xs (2 * j + 1) (omega arith) n_is in
-    let within : 1024 * 2 ^ suc level * j + 1024 * 2 ^ suc level ≤ length xs =
-    omega (arith, long, pow-suc 2 level, scaled (1024 * 2 ^ suc level) j 8 lt) in
-    front j low ∙ (λ i. chaining (parent_node mode (a i) (b i)))
-    ∙ ap chaining (sym (part-joined level j mode first xs within))
-subtrees-joined_at level mode first next n xs left right up long n_is next_is left_is right_is front back j lt
-    (inr high) =
-    let k : ℕ = j - 4 in
-    let at : j ≡ k + 4 = omega arith in
-    let e_at : 2 * k + 8 ≡ 2 * j = omega arith in
-    let o_at : 2 * k + 1 + 8 ≡ 2 * j + 1 = omega arith in
-    let a = right_is (2 * k) (omega arith) ∙ halves-back level mode first next n xs (2 * k) n_is next_is
-    ∙ ap (part_chaining level mode first xs) e_at in
-    let b = right_is (2 * k + 1) (omega arith) ∙ halves-back level mode first next n xs (2 * k + 1) n_is next_is
-    ∙ ap (part_chaining level mode first xs) o_at in
-    let within : 1024 * 2 ^ suc level * j + 1024 * 2 ^ suc level ≤ length xs =
-    omega (arith, long, pow-suc 2 level, scaled (1024 * 2 ^ suc level) j 8 lt) in
-    ap up at ∙ back k (omega arith) ∙ (λ i. chaining (parent_node mode (a i) (b i)))
-    ∙ ap chaining (sym (part-joined level j mode first xs within))
-
 -- the parents of eight parts of the front half and of eight parts of the back half, in order
 pub subtrees-joined : (level : ℕ) (mode : Mode) (first next n : ℕ) (xs : List ℕ) (left right up : ℕ → List ℕ)
     → length xs ≡ 16384 * 2 ^ level → n ≡ 8192 * 2 ^ level → next ≡ first + 8 * 2 ^ level
@@ -187,5 +147,23 @@ pub subtrees-joined : (level : ℕ) (mode : Mode) (first next n : ℕ) (xs : Lis
     → ((j : ℕ) → j < 4 → up (j + 4) ≡ chaining (parent_node mode (right (2 * j)) (right (2 * j + 1))))
     → (j : ℕ) → j < 8 → up j ≡ part_chaining (suc level) mode first xs j
 subtrees-joined level mode first next n xs left right up long n_is next_is left_is right_is front back j lt =
-    subtrees-joined_at level mode first next n xs left right up long n_is next_is left_is right_is front back j lt
-    (cases_lt j 4)
+    let w : ℕ = 1024 * 2 ^ suc level in
+    let within : w * j + w ≤ length xs = omega (arith, long, pow-suc 2 level, column_fits w j w 8 lt (omega arith)) in
+    let parent_is = ap chaining (sym (part-joined level j mode first xs within)) in
+    elim (cases_lt j 4) [
+      | inl low ↦
+          let a = left_is (2 * j) (omega arith) ∙ halves-front level mode first n xs (2 * j) (omega arith) n_is in
+          let b = left_is (2 * j + 1) (omega arith)
+          ∙ halves-front level mode first n xs (2 * j + 1) (omega arith) n_is in
+          front j low ∙ (λ i. chaining (parent_node mode (a i) (b i))) ∙ parent_is
+      | inr high ↦
+          let k : ℕ = j - 4 in
+          let at : j ≡ k + 4 = omega arith in
+          let even_at : 2 * k + 8 ≡ 2 * j = omega arith in
+          let odd_at : 2 * k + 1 + 8 ≡ 2 * j + 1 = omega arith in
+          let a = right_is (2 * k) (omega arith) ∙ halves-back level mode first next n xs (2 * k) n_is next_is
+          ∙ ap (part_chaining level mode first xs) even_at in
+          let b = right_is (2 * k + 1) (omega arith) ∙ halves-back level mode first next n xs (2 * k + 1) n_is next_is
+          ∙ ap (part_chaining level mode first xs) odd_at in
+          ap up at ∙ back k (omega arith) ∙ (λ i. chaining (parent_node mode (a i) (b i))) ∙ parent_is
+    ]

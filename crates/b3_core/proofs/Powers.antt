@@ -1,9 +1,10 @@
 -- Powers of two and their multiples.
-use Rattle.std.proofs.Common.{inl, inr, ◌≡◌, ℕ, zero, suc, ◌+◌, ◌-◌, ◌*◌, ◌/◌, ◌^◌, ◌<◌, ◌≤◌, arith, sym, ap, ◌∙◌, shr-shr}
+use Rattle.std.proofs.Common.{inl, inr, ◌≡◌, ℕ, zero, suc, ◌+◌, ◌-◌, ◌*◌, ◌/◌, ◌^◌, ◌<◌, ◌≤◌, arith, sym, ap, ◌∙◌}
+use Rattle.std.proofs.Common.{shr-shr}
 use Rattle.std.proofs.lemmas.Bool.{cases_lt}
-use Rattle.std.proofs.lemmas.Nat.{mul-le, pow-add, pow_pos}
+use Rattle.std.proofs.lemmas.Nat.{pow-add, pow_pos, row_fits}
 use Rattle.std.proofs.lemmas.Nat.Bits.{bit_at-trailing_zeros}
-use Rattle.std.proofs.Math.Nat.{lt_of_mul-lt-mul_right, pow-le-pow_right, pow-suc}
+use Rattle.std.proofs.Math.Nat.{eq_of_mul-eq-mul_right, lt_of_mul-lt-mul_right, pow-le-pow_right, pow-suc}
 use Rattle.std.specs.Int.{bit_at, trailing_zeros, w64}
 
 pub double : (k : ℕ) → 2 ^ suc k ≡ 2 * 2 ^ k
@@ -30,36 +31,16 @@ next_power (suc (suc n)) h =
 
 -- of two multiples of p the lower ends at the higher
 pub below_multiple : (q m p : ℕ) → q * p < m * p → q * p + p ≤ m * p
-below_multiple q m p lt =
-    let fewer : q < m = lt_of_mul-lt-mul_right p lt in
-    omega (arith, mul-le (q + 1) p m p (omega arith) (omega arith))
+below_multiple q m p lt = row_fits q p m p (lt_of_mul-lt-mul_right p lt) (omega arith)
 
 -- a multiple of a power of two is one of each lower power
 pub lower_multiple : (q k e : ℕ) → q * 2 ^ (k + e) ≡ (q * 2 ^ e) * 2 ^ k
 lower_multiple q k e = rw (pow-add 2 k e) (omega arith)
 
--- a number is at most its power of two
-pub below_power : (n : ℕ) → n ≤ 2 ^ n
-below_power zero = omega arith
-below_power (suc n) = omega (arith, double n, below_power n, pow_pos n)
-
--- equal multiples are of equal numbers
-pub cancel : (x y p : ℕ) → x * p ≡ y * p → 0 < p → x ≡ y
-cancel x y p same some =
-    elim (cases_lt x y) [
-      | inl less ↦ absurd (omega (
-        arith,
-        below_multiple x y p (omega (arith, mul-le (x + 1) p y p (omega arith) (omega arith))),
-      ))
-      | inr more ↦
-          elim (cases_lt y x) [
-            | inl less ↦ absurd (omega (
-              arith,
-              below_multiple y x p (omega (arith, mul-le (y + 1) p x p (omega arith) (omega arith))),
-            ))
-            | inr none ↦ omega arith
-          ]
-    ]
+-- a number is below its power of two
+pub below_power : (n : ℕ) → n < 2 ^ n
+below_power zero = pow_pos 0
+below_power (suc n) = omega (arith, double n, below_power n)
 
 -- an odd multiple of 2 ^ j is no multiple of a higher power
 pub not_above : (a j k Q q : ℕ) → a ≡ (2 * Q + 1) * 2 ^ j → a ≡ q * 2 ^ k → k ≤ j
@@ -77,7 +58,7 @@ not_above a j k Q q lowest starts =
             high,
             ap (λ (p : ℕ). q * 2 ^ e * p) (double j),
           ) in
-          let same : 2 * Q + 1 ≡ 2 * (q * 2 ^ e) = cancel (2 * Q + 1) (2 * (q * 2 ^ e)) (2 ^ j) even (pow_pos j) in
+          let same = eq_of_mul-eq-mul_right (2 ^ j) (pow_pos j) (2 * Q + 1) (2 * (q * 2 ^ e)) even in
           absurd (omega arith)
     ]
 
@@ -89,12 +70,11 @@ clear_below (suc j) n clear =
     let before : n ≡ m * 2 ^ j = clear_below j n (λ i lt. clear i (omega arith)) in
     let even : m ≡ m / 2 * 2 = omega (arith, clear j (omega arith)) in
     let half : n / 2 ^ suc j ≡ m / 2 = ap (λ (i : ℕ). n / 2 ^ i) (omega arith) ∙ sym (shr-shr n j 1) in
-    let double : 2 ^ suc j ≡ 2 * 2 ^ j = omega (arith, pow-suc 2 j) in
     let wide : n ≡ m / 2 * 2 ^ suc j = omega (
       arith,
       before,
       ap (λ (x : ℕ). x * 2 ^ j) even,
-      ap (λ (p : ℕ). m / 2 * p) double,
+      ap (λ (p : ℕ). m / 2 * p) (double j),
     ) in
     wide ∙ ap (λ (x : ℕ). x * 2 ^ suc j) (sym half)
 

@@ -1,5 +1,5 @@
 -- Words of a vector rotated right: by two shifts, and by whole bytes.
-use Rattle.std.proofs.Common.{◌≡◌, ℕ, zero, suc, ◌+◌, ◌-◌, ◌<◌, ◌%◌, ◌/◌, ◌*◌, ◌^◌, List, [], ◌∷◌, length, map, get_or}
+use Rattle.std.proofs.Common.{◌≡◌, ℕ, zero, suc, ◌+◌, ◌-◌, ◌<◌, ◌%◌, ◌/◌, ◌*◌, ◌^◌, List, length, map, get_or}
 use Rattle.std.proofs.Common.{replicate, refl, sym, ap, ◌∙◌, arith, bit_or, bit_xor, w32, Fits, ◌⊎◌, inl, inr}
 use Rattle.std.specs.Int.{rotate_right}
 use Rattle.std.specs.List.{concat, range_with_len}
@@ -8,7 +8,7 @@ use Rattle.std.specs.Int.Bits.{or_shifted_r}
 use Rattle.std.proofs.Math.Nat.{mod-lt}
 use Rattle.std.proofs.lemmas.Grind.{same_number_lists}
 use Rattle.std.proofs.lemmas.List.{get_or-map, length-map}
-use Rattle.std.proofs.lemmas.Simd.{Each1-get_or, below_from_Fits, get_or_narrower, get_or_wider}
+use Rattle.std.proofs.lemmas.Simd.{Each1-all, Each1-get_or, below_from_Fits, get_or-zip2, get_or_narrower, get_or_wider}
 use Rattle.std.proofs.lemmas.Simd.{length-zip2, zip2_splat, zip2_of_maps}
 use Rattle.std.proofs.lemmas.Nat.{xor_lt, xor_mod, xor_shr}
 use Rattle.b3_core.proofs.Lists.{below_eight, map-below}
@@ -41,19 +41,29 @@ moved-word k s =
     ≡ map (λ i. get_or s (4 * j + (k + i) % 4) 0) (range_with_len 0 4))
     refl refl refl refl refl refl refl refl
 
--- what is read of digits is a digit
-digit-below : (n x i : ℕ) → get_or (digits_l 256 n x) i 0 < 256
-digit-below zero x i = omega arith
-digit-below (suc n) x zero = mod-lt x (omega arith)
-digit-below (suc n) x (suc i) = digit-below n (x / 256) i
+-- what is read of an exclusive or of bytes is a byte
+xor-below : (n x y i : ℕ) → get_or (zip2 bit_xor (digits_l 256 n x) (digits_l 256 n y)) i 0 < 256
+xor-below zero x y i = omega arith
+xor-below (suc n) x y zero = xor_lt 8 (x % 256) (y % 256) (mod-lt x (omega arith)) (mod-lt y (omega arith))
+xor-below (suc n) x y (suc i) = xor-below n (x / 256) (y / 256) i
 
-picked-below : (n x : ℕ) (places : List ℕ) → Each1 (λ a. a < 256) (pick_l 0 (digits_l 256 n x) places)
-picked-below n x [] = tt
-picked-below n x (i ∷ places) = (digit-below n x i, picked-below n x places)
+-- byte e of the exclusive or of two words
+xor-byte : (x y e : ℕ) → e < 8 → bit_xor (x / 256 ^ e % 256) (y / 256 ^ e % 256) ≡ bit_xor x y / 256 ^ e % 256
+xor-byte x y =
+    let shifted : (s : ℕ) → bit_xor (x / 2 ^ s % 2 ^ 8) (y / 2 ^ s % 2 ^ 8) ≡ bit_xor x y / 2 ^ s % 2 ^ 8 =
+    λ s. sym (ap (λ n. n % 2 ^ 8) (xor_shr x y s) ∙ xor_mod (x / 2 ^ s) (y / 2 ^ s) 8) in
+    below_eight (λ e. bit_xor (x / 256 ^ e % 256) (y / 256 ^ e % 256) ≡ bit_xor x y / 256 ^ e % 256)
+    (shifted 0) (shifted 8) (shifted 16) (shifted 24) (shifted 32) (shifted 40) (shifted 48) (shifted 56)
 
-length-digits : (q n x : ℕ) → length (digits_l q n x) ≡ n
-length-digits q zero x = refl
-length-digits q (suc n) x = ap suc (length-digits q n (x / q))
+-- byte e of word j of an exclusive or
+byte_of-xor : (x y : List ℕ) (j e : ℕ) → Each1 (λ n. n < 2 ^ 32) x → Each1 (λ n. n < 2 ^ 32) y → j < 8 → e < 4
+    → get_or (zip2 bit_xor (bytes x) (bytes y)) (4 * j + e) 0 ≡ bit_xor (get_or x j 0) (get_or y j 0) / 256 ^ e % 256
+byte_of-xor x y j e x_below y_below j_in e_in =
+    let at : 4 * j + e < 32 = omega arith in
+    get_or-zip2 bit_xor (bytes x) (bytes y) (4 * j + e) 0 0 0 at at
+    ∙ (λ i. bit_xor (get_or_narrower (2 ^ 32) 4 256 32 x j e refl x_below e_in at i)
+    (get_or_narrower (2 ^ 32) 4 256 32 y j e refl y_below e_in at i))
+    ∙ xor-byte (get_or x j 0) (get_or y j 0) e (omega arith)
 
 -- a word from its bytes, of which byte k comes first
 abbrev from_byte : ℕ → ℕ → ℕ
@@ -69,66 +79,32 @@ rotated-word k z (inr is) fits =
     let back : z % 2 ^ 16 * 2 ^ 16 ≡ z * 2 ^ 16 % 2 ^ 32 = omega (arith, fits) in
     rw is (sum ∙ sym (or_shifted_r (z % 2 ^ 16) 16 (z / 2 ^ 16) (omega (arith, fits))) ∙ ap (bit_or (z / 2 ^ 16)) back)
 
--- moved bytes rotate each of eight words
-rotated-bytes : (x : List ℕ) (k r : ℕ) → r ≡ 8 * k → (k ≡ 1) ⊎ (k ≡ 2) → length x ≡ 8 → Each1 (λ n. n < 2 ^ 32) x
-    → digits_l (2 ^ 32) 8 (number_l 256 (pick_l 0 (bytes x) (places k))) ≡ map (λ n. rotate_right w32 n r) x
-rotated-bytes x k r is one_or_two long x_below =
-    let p = pick_l 0 (bytes x) (places k) in
-    let p_long = length-digits (2 ^ 32) 8 (number_l 256 p) in
-    same_number_lists (digits_l (2 ^ 32) 8 (number_l 256 p)) (map (λ n. rotate_right w32 n r) x)
-    (p_long ∙ sym (length-map x (λ n. rotate_right w32 n r) ∙ long))
-    (λ j j_in.
-    let lt : j < 8 = omega (arith, j_in, p_long) in
-    let z = get_or x j 0 in
-    get_or_wider 256 4 (2 ^ 32) 8 p j refl (picked-below 32 (number_l (2 ^ 32) x) (places k)) lt
-    ∙ ap (number_l 256) (moved-word k (bytes x) j lt
-    ∙ map-below (λ i. get_or (bytes x) (4 * j + (k + i) % 4) 0) (λ i. z / 256 ^ ((k + i) % 4) % 256) 4
-    (λ i i_in. get_or_narrower (2 ^ 32) 4 256 32 x j ((k + i) % 4) refl x_below (omega arith) (omega arith)))
-    ∙ rotated-word k z one_or_two (Each1-get_or (λ n. n < 2 ^ 32) x j 0 (omega (arith, long)) x_below)
-    ∙ ap (rotate_right w32 z) (sym is)
-    ∙ sym (get_or-map (λ n. rotate_right w32 n r) x j 0 0 (omega (arith, long))))
-
-xor-below : (x y : List ℕ) → Each1 (λ n. n < 2 ^ 32) x → Each1 (λ n. n < 2 ^ 32) y
-    → Each1 (λ n. n < 2 ^ 32) (zip2 bit_xor x y)
-xor-below [] y p q = tt
-xor-below (a ∷ x) [] p q = tt
-xor-below (a ∷ x) (b ∷ y) p q = (xor_lt 32 a b p.0 q.0, xor-below x y p.1 q.1)
-
-number-low : (a : ℕ) (x : List ℕ) → a < 2 ^ 32 → number_l (2 ^ 32) (a ∷ x) % 2 ^ 32 ≡ a
-number-low a x fits = omega (arith, fits)
-
-number-high : (a : ℕ) (x : List ℕ) → a < 2 ^ 32 → number_l (2 ^ 32) (a ∷ x) / 2 ^ 32 ≡ number_l (2 ^ 32) x
-number-high a x fits = omega (arith, fits)
-
--- the exclusive or of words as that of their numbers, and of numbers as that of their bytes
-xor-number : (x y : List ℕ) → length x ≡ length y → Each1 (λ n. n < 2 ^ 32) x → Each1 (λ n. n < 2 ^ 32) y
-    → number_l (2 ^ 32) (zip2 bit_xor x y) ≡ bit_xor (number_l (2 ^ 32) x) (number_l (2 ^ 32) y)
-xor-number [] [] same p q = refl
-xor-number [] (b ∷ y) same p q = absurd (omega (arith, same))
-xor-number (a ∷ x) [] same p q = absurd (omega (arith, same))
-xor-number (a ∷ x) (b ∷ y) same p q =
-    let m = number_l (2 ^ 32) (a ∷ x) in
-    let n = number_l (2 ^ 32) (b ∷ y) in
-    let low = xor_mod m n 32 ∙ (λ i. bit_xor (number-low a x p.0 i) (number-low b y q.0 i)) in
-    let high = xor_shr m n 32 ∙ (λ i. bit_xor (number-high a x p.0 i) (number-high b y q.0 i))
-    ∙ sym (xor-number x y (omega (arith, same)) p.1 q.1) in
-    omega (arith, low, high)
-
-xor-digits : (n x y : ℕ) → zip2 bit_xor (digits_l 256 n x) (digits_l 256 n y) ≡ digits_l 256 n (bit_xor x y)
-xor-digits zero x y = refl
-xor-digits (suc n) x y =
-    λ i. sym (xor_mod x y 8) i ∷ (xor-digits n (x / 256) (y / 256) ∙ ap (digits_l 256 n) (sym (xor_shr x y 8))) i
-
--- and moved bytes of it rotate each of its words
-pub mixed-bytes : (x y : List ℕ) (k r : ℕ) → r ≡ 8 * k → (k ≡ 1) ⊎ (k ≡ 2) → length x ≡ 8 → length y ≡ 8
+-- moved bytes of an exclusive or rotate each of its eight words
+pub xor_rotated-bytes : (x y : List ℕ) (k r : ℕ) → r ≡ 8 * k → (k ≡ 1) ⊎ (k ≡ 2) → length x ≡ 8 → length y ≡ 8
     → Each1 (Fits w32) x → Each1 (Fits w32) y
     → digits_l (2 ^ 32) 8 (number_l 256 (pick_l 0 (zip2 bit_xor (bytes x) (bytes y)) (places k)))
     ≡ map (λ n. rotate_right w32 n r) (zip2 bit_xor x y)
-mixed-bytes x y k r is one_or_two x_long y_long x_fits y_fits =
+xor_rotated-bytes x y k r is one_or_two x_long y_long x_fits y_fits =
+    let s = zip2 bit_xor (bytes x) (bytes y) in
+    let p = pick_l 0 s (places k) in
+    let words = zip2 bit_xor x y in
     let x_below = below_from_Fits w32 x x_fits in
     let y_below = below_from_Fits w32 y y_fits in
-    ap (λ s. digits_l (2 ^ 32) 8 (number_l 256 (pick_l 0 s (places k))))
-    (xor-digits 32 (number_l (2 ^ 32) x) (number_l (2 ^ 32) y)
-    ∙ ap (digits_l 256 32) (sym (xor-number x y (x_long ∙ sym y_long) x_below y_below)))
-    ∙ rotated-bytes (zip2 bit_xor x y) k r is one_or_two (length-zip2 bit_xor x y (x_long ∙ sym y_long) ∙ x_long)
-    (xor-below x y x_below y_below)
+    let long : length words ≡ 8 = length-zip2 bit_xor x y (x_long ∙ sym y_long) ∙ x_long in
+    same_number_lists (digits_l (2 ^ 32) 8 (number_l 256 p)) (map (λ n. rotate_right w32 n r) words)
+    (sym (length-map words (λ n. rotate_right w32 n r) ∙ long))
+    (λ j j_in.
+    let lt : j < 8 = j_in in
+    let a = get_or x j 0 in
+    let b = get_or y j 0 in
+    let a_in : j < length x = omega (arith, x_long) in
+    let b_in : j < length y = omega (arith, y_long) in
+    get_or_wider 256 4 (2 ^ 32) 8 p j refl
+    (Each1-all (λ i. get_or s i 0 < 256) (xor-below 32 (number_l (2 ^ 32) x) (number_l (2 ^ 32) y)) (places k)) lt
+    ∙ ap (number_l 256) (moved-word k s j lt
+    ∙ map-below (λ i. get_or s (4 * j + (k + i) % 4) 0) (λ i. bit_xor a b / 256 ^ ((k + i) % 4) % 256) 4
+    (λ i i_in. byte_of-xor x y j ((k + i) % 4) x_below y_below lt (omega arith)))
+    ∙ rotated-word k (bit_xor a b) one_or_two (xor_lt 32 a b (Each1-get_or (λ n. n < 2 ^ 32) x j 0 a_in x_below)
+    (Each1-get_or (λ n. n < 2 ^ 32) y j 0 b_in y_below))
+    ∙ (λ i. rotate_right w32 (sym (get_or-zip2 bit_xor x y j 0 0 0 a_in b_in) i) (sym is i))
+    ∙ sym (get_or-map (λ n. rotate_right w32 n r) words j 0 0 (omega (arith, long))))

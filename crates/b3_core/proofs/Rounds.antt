@@ -55,7 +55,7 @@ diagonals-together : (at x : ℕ → ℕ)
 unfolding g half_g
 diagonals-together at x = refl
 
-length-half_g : (v : List ℕ) (a b c d x r s : ℕ) → length (half_g v a b c d x r s) ≡ length v
+pub length-half_g : (v : List ℕ) (a b c d x r s : ℕ) → length (half_g v a b c d x r s) ≡ length v
 unfolding half_g
 length-half_g v a b c d x r s = length-set _ _ _ ∙ length-set _ _ _ ∙ length-set _ _ _ ∙ length-set _ _ _
 

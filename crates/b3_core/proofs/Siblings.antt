@@ -1,16 +1,18 @@
 -- The sibling of a subtree: by numbers, as the code finds it, and that it is the only one.
-use Rattle.std.proofs.Common.{inl, inr, ◌⊎◌, ◌≡◌, ℕ, suc, ◌+◌, ◌-◌, ◌*◌, ◌%◌, ◌/◌, ◌^◌, ◌<◌, ◌≤◌, min, arith, refl, subst, sym, ap, ◌∙◌}
+use Rattle.std.proofs.Common.{inl, inr, ◌⊎◌, ◌≡◌, ℕ, suc, ◌+◌, ◌-◌, ◌*◌, ◌%◌, ◌/◌, ◌^◌, ◌<◌, ◌≤◌, min, arith, refl}
+use Rattle.std.proofs.Common.{subst, sym, ap, ◌∙◌}
 use Rattle.std.proofs.lemmas.Bool.{cases_lt, cases_eq}
 use Rattle.std.proofs.lemmas.Grind.{not_there}
 use Rattle.std.proofs.lemmas.Nat.{div-add-mod', one_shl, pow_pos}
-use Rattle.std.proofs.Math.Nat.{mul-mod_left, pow-le-pow_right}
+use Rattle.std.proofs.Math.Nat.{eq_of_mul-eq-mul_right, mul-mod_left, pow-le-pow_right}
 use Rattle.std.specs.Int.{trailing_zeros, w64}
 use Rattle.b3_core.specs.Tree.{IsLeft}
 use Rattle.b3_core.specs.Subtrees.{AreChildren, AreSiblings, IsSubtree}
 use Rattle.b3_core.specs.Subtrees.IsSubtree.{left_child, right_child}
-use Rattle.b3_core.specs.declared.tree.Span.{Span}
-use Rattle.b3_core.proofs.Grid.{InGrid, InGrid-from_IsSubtree, IsSubtree-from_InGrid, IsSubtree-from_tests, tests-from_IsSubtree}
-use Rattle.b3_core.proofs.Powers.{cancel, double, exponent, lower_multiple, lowest_bit, next_power, not_above}
+use Rattle.b3_core.specs.declared.spans.Span.{Span}
+use Rattle.b3_core.proofs.Grid.{InGrid, InGrid-from_IsSubtree, IsSubtree-from_InGrid, IsSubtree-from_tests}
+use Rattle.b3_core.proofs.Grid.{tests-from_IsSubtree}
+use Rattle.b3_core.proofs.Powers.{double, exponent, lower_multiple, lowest_bit, next_power, not_above}
 
 module _ (n : ℕ) where
   left_full : (a c k : ℕ) → c ≡ 2 ^ k → a + c < n
@@ -176,18 +178,14 @@ one_left n a l a2 l2 b r some x y =
     let lengths : l ≡ l2 = k.power ∙ ap (λ (i : ℕ). 2 ^ i) same ∙ sym m.power in
     (omega (arith, k.next, m.next), lengths)
 
-no_end : (n a c l : ℕ) → a + c < n → (c ≡ l) ⊎ (a + c ≡ n) → c ≡ l
-no_end n a c l room (inl p) = p
-no_end n a c l room (inr e) = absurd (omega arith)
-
 -- no span is a left child and a right child
 pub not_both : (n a c b d b2 d2 : ℕ) → 1 ≤ n → AreChildren n a c b d → AreChildren n b2 d2 a c → ⊥
 not_both n a c b d b2 d2 some x y =
     let k = Kids-from_AreChildren n a c b d some x in
     let m = Kids-from_AreChildren n b2 d2 a c some y in
-    let same : c ≡ d2 = no_end n a c d2 (omega (arith, k.next, k.ends, k.some)) m.full in
+    let same : c ≡ d2 = elim m.full [ inl p ↦ p | inr e ↦ absurd (omega (arith, k.next, k.ends, k.some)) ] in
     let odd : a ≡ (2 * m.q + 1) * c = m.back ∙ ap (λ (p : ℕ). (2 * m.q + 1) * p) (sym same) in
-    let halves : 2 * m.q + 1 ≡ 2 * k.q = cancel (2 * m.q + 1) (2 * k.q) c (sym odd ∙ k.front) k.positive in
+    let halves = eq_of_mul-eq-mul_right c k.positive (2 * m.q + 1) (2 * k.q) (sym odd ∙ k.front) in
     absurd (omega arith)
 
 pub one_sibling : (n a c b d b2 d2 : ℕ) → 1 ≤ n → AreChildren n a c b d ⊎ AreChildren n b d a c
@@ -198,41 +196,33 @@ one_sibling n a c b d b2 d2 some (inr x) (inr y) = one_left n b d b2 d2 a c some
 one_sibling n a c b d b2 d2 some (inl x) (inr y) = absurd (not_both n a c b d b2 d2 some x y)
 one_sibling n a c b d b2 d2 some (inr x) (inl y) = absurd (not_both n a c b2 d2 b d some y x)
 
+-- the order of two numbers that P gives, where it is only known that P holds
+le-had : (P : Type 0) (x y : ℕ) → ∥ P ∥₁ → (P → x ≤ y) → x ≤ y
+le-had P x y there order =
+    elim (cases_lt y x) [
+      | inr le ↦ le
+      | inl more ↦ absurd (not_there there (λ p. let le = order p in omega arith))
+    ]
+
 -- a span that is a subtree is known to be one
 pub IsSubtree-had : (n a c : ℕ) → 1 ≤ n → ∥ IsSubtree n a c ∥₁ → IsSubtree n a c
-IsSubtree-had n a c some h =
-    elim (cases_lt 0 c) [
-      | inr none ↦ absurd (not_there h (λ s. let at = InGrid-from_IsSubtree n some s in let x = at.some in omega arith))
-      | inl more ↦
-          let (k, covers, least) = next_power c more in
-          let p = 2 ^ k in
-          let tests : IsSubtree n a c
-          → (1 ≤ c) × (a + c ≤ n) × (a % p ≡ 0)
-          × ((c ≡ p) ⊎ (a + c ≡ n)) = λ s. tests-from_IsSubtree n a c p some (k, refl) covers (omega arith) s in
-          elim (cases_lt n (a + c)) [
-            | inl past ↦ absurd (not_there h (λ s. let t = (tests s).1 in omega arith))
-            | inr ends ↦
-                elim (cases_eq (a % p) 0) [
-                  | inr off ↦ absurd (not_there h (λ s. off (tests s).2))
-                  | inl starts ↦
-                      elim (cases_eq c p) [
-                        | inl full ↦ IsSubtree-from_tests n a c p (
-                          k,
-                          refl,
-                        ) covers (omega arith) more ends starts (inl full)
-                        | inr part ↦
-                            elim (cases_eq (a + c) n) [
-                              | inl last ↦ IsSubtree-from_tests n a c p (
-                                k,
-                                refl,
-                              ) covers (omega arith) more ends starts (inr last)
-                              | inr before ↦
-                                  absurd (not_there h (λ s. elim ((tests s).3) [ inl e ↦ part e | inr e ↦ before e ]))
-                            ]
-                      ]
-                ]
-          ]
-    ]
+IsSubtree-had n a c some there =
+    let known = le-had (IsSubtree n a c) in
+    let one : 1 ≤ c = known 1 c there (λ s. (InGrid-from_IsSubtree n some s).some) in
+    let ends : a + c ≤ n = known (a + c) n there (λ s. (InGrid-from_IsSubtree n some s).ends) in
+    let (k, covers, least) = next_power c one in
+    let p = 2 ^ k in
+    let tests : IsSubtree n a c → (1 ≤ c) × (a + c ≤ n) × (a % p ≡ 0) × ((c ≡ p) ⊎ (a + c ≡ n)) =
+    λ s. tests-from_IsSubtree n a c p some (k, refl) covers (omega arith) s in
+    let starts : a % p ≤ 0 = known (a % p) 0 there (λ s. omega (arith, (tests s).2)) in
+    let full : (c ≡ p) ⊎ (a + c ≡ n) = elim (cases_eq c p) [
+      | inl power ↦ inl power
+      | inr part ↦
+          let last : n ≤ a + c = known n (a + c) there
+          (λ s. elim ((tests s).3) [ inl e ↦ absurd (part e) | inr e ↦ omega arith ]) in
+          inr (omega arith)
+    ] in
+    IsSubtree-from_tests n a c p (k, refl) covers (omega arith) one ends (omega arith) full
 
 right_child_of : {n a l r b : ℕ} → IsSubtree n a (l + r) → IsLeft (l + r) l → b ≡ a + l → IsSubtree n b r
 right_child_of {n} {a} {l} {r} {b} up left next =

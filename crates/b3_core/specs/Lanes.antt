@@ -1,4 +1,5 @@
--- Vectors of eight lanes, each a list of eight words, and what lanes are about.
+-- Eight compressions or chunks at once (BLAKE3 (2020), 2.2 and 2.4), a lane each: what lanes hold and what they are
+-- about, for private contracts alone. A vector is a list of eight words.
 use Rattle.std.specs.Prelude.{◌≡◌, ℕ, ◌+◌, ◌*◌, ◌<◌, List, [], ◌∷◌, length, map, take, drop, slice_index}
 use Rattle.std.specs.Prelude.{slice_index_or, bit_or, nat_eq, if◌then◌else◌}
 use Rattle.std.specs.Int.{w32, from_le_bytes}
@@ -12,13 +13,14 @@ abbrev pub lane : ℕ → List (List ℕ) → List ℕ
 lane j v = map (λ row. slice_index row j) v
 
 -- n vectors, each of eight lanes
-abbrev pub AreWide : ℕ → List (List ℕ) → Type 0
-AreWide n v = (length v ≡ n) × ((i : ℕ) → i < n → length (slice_index_or v i []) ≡ 8)
+abbrev pub AreVectors : ℕ → List (List ℕ) → Type 0
+AreVectors n v = (length v ≡ n) × ((i : ℕ) → i < n → length (slice_index_or v i []) ≡ 8)
 
--- the word from this place of a list of bytes on
-abbrev pub word_from : List ℕ → ℕ → ℕ
-word_from bytes at = from_le_bytes w32
-    (slice_index bytes at ∷ slice_index bytes (at + 1) ∷ slice_index bytes (at + 2) ∷ slice_index bytes (at + 3) ∷ [])
+-- the word that begins at this offset of a list of bytes
+abbrev pub word_at_offset : List ℕ → ℕ → ℕ
+word_at_offset bytes offset = from_le_bytes w32
+    (slice_index bytes offset ∷ slice_index bytes (offset + 1) ∷ slice_index bytes (offset + 2)
+    ∷ slice_index bytes (offset + 3) ∷ [])
 
 -- part j of an input, of parts of w chunks each
 abbrev pub part : ℕ → ℕ → List ℕ → List ℕ

@@ -2,7 +2,7 @@
 -- its first chunk, and how many chunks it has.
 use Rattle.std.specs.Prelude.{◌≡◌, ◌⊎◌, ℕ, ◌+◌, ◌-◌}
 use Rattle.b3_core.specs.Tree.{IsLeft}
-use Rattle.b3_core.specs.declared.tree.Span.{Span}
+use Rattle.b3_core.specs.declared.spans.Span.{Span}
 
 -- the span of c chunks from chunk a on is a subtree: the whole tree, or the left or the right child of
 -- a subtree

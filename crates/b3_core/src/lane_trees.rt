@@ -3,15 +3,15 @@
 ghost use Rattle.std.specs.Prelude.{◌≡◌, ℕ, ◌+◌, ◌*◌, ◌^◌, ◌<◌, ◌≤◌, length, take};
 ghost use Rattle.b3_core.specs.Nodes.{chaining};
 ghost use Rattle.b3_core.specs.Tree.{chunks, parent_node, top};
-ghost use Rattle.b3_core.specs.Lanes.{AreChunkChainings, AreWide, lane, part};
+ghost use Rattle.b3_core.specs.Lanes.{AreChunkChainings, AreVectors, lane, part};
 
+use crate::broadcast::broadcast;
 use crate::flags::PARENT;
-use crate::lane_chunks::{chain_eight, chain_few};
-use crate::lanes::{all_listed, chainings8, listed};
+use crate::lane_chunks::{chain_all_lanes, chain_some_lanes};
+use crate::lanes::{all_lanes, chainings8, lane_words};
 use crate::leaves::{BLOCK_LEN, CHUNK_LEN, chunk_node};
 use crate::modes::Mode;
 use crate::nodes::Node;
-use crate::spread::spread;
 use crate::tree::{chunks, left, parent_node};
 use std::simd::prelude::*;
 
@@ -19,9 +19,9 @@ use std::simd::prelude::*;
 // the rounds that are inlined are long.
 #[inline(never)]
 fn parents8(mode: &Mode, left: &[u32x8; 8], right: &[u32x8; 8]) -> [u32x8; 8]
-    requires left { AreWide 8 left.now }
-    requires right { AreWide 8 right.now }
-    ensures wide { AreWide 8 result }
+    requires left { AreVectors 8 left.now }
+    requires right { AreVectors 8 right.now }
+    ensures wide { AreVectors 8 result }
     ensures front { (j : ℕ) → j < 4 → lane j result
         ≡ chaining (parent_node mode.now (lane (2 * j) left.now) (lane (2 * j + 1) left.now)) }
     ensures back { (j : ℕ) → j < 4 → lane (j + 4) result
@@ -38,7 +38,7 @@ fn parents8(mode: &Mode, left: &[u32x8; 8], right: &[u32x8; 8]) -> [u32x8; 8]
     let m = [
         a0, a1, a2, a3, a4, a5, a6, a7, b0, b1, b2, b3, b4, b5, b6, b7,
     ];
-    let h = spread(&mode.key);
+    let h = broadcast(&mode.key);
     let zero = u32x8::splat(0);
     chainings8(&h, &m, zero, zero, BLOCK_LEN as u32, mode.flag | PARENT)
 }
@@ -47,12 +47,12 @@ fn parents8(mode: &Mode, left: &[u32x8; 8], right: &[u32x8; 8]) -> [u32x8; 8]
 fn eight_subtrees(mode: &Mode, first: u64, bytes: &[u8], level: u32) -> [u32x8; 8]
     requires bytes { length bytes.now ≡ 8192 * 2 ^ level }
     requires first { first + 8 * 2 ^ level ≤ 2 ^ 54 }
-    ensures wide { AreWide 8 result }
+    ensures wide { AreVectors 8 result }
     ensures lanes { (j : ℕ) → j < 8
         → lane j result ≡ chaining (top mode.now (first + 2 ^ level * j) (part (2 ^ level) j bytes.now)) }
 {
     if level == 0 {
-        return chain_eight(mode, first, bytes);
+        return chain_all_lanes(mode, first, bytes);
     }
     let half = bytes.len() / 2;
     let (front, back) = bytes.split_at(half);
@@ -62,7 +62,7 @@ fn eight_subtrees(mode: &Mode, first: u64, bytes: &[u8], level: u32) -> [u32x8; 
 }
 
 // The top of the tree over 8 * 2 ^ `level` full chunks.
-pub(crate) fn full_top(mode: &Mode, first: u64, bytes: &[u8], level: u32) -> Node
+pub(crate) fn top_of_full_chunks(mode: &Mode, first: u64, bytes: &[u8], level: u32) -> Node
     requires bytes { length bytes.now ≡ 8192 * 2 ^ level }
     requires first { first + 8 * 2 ^ level ≤ 2 ^ 54 }
     ensures { result ≡ top mode.now first bytes.now }
@@ -70,11 +70,11 @@ pub(crate) fn full_top(mode: &Mode, first: u64, bytes: &[u8], level: u32) -> Nod
     let eight = eight_subtrees(mode, first, bytes, level);
     let four = parents8(mode, &eight, &eight);
     let two = parents8(mode, &four, &four);
-    parent_node(mode, &listed(&two, 0), &listed(&two, 1))
+    parent_node(mode, &lane_words(&two, 0), &lane_words(&two, 1))
 }
 
 // The chaining value of the tree over `bytes`, from those of its chunks.
-fn joined(mode: &Mode, first: u64, bytes: &[u8], chainings: &[[u32; 8]]) -> [u32; 8]
+fn chaining_from_chunks(mode: &Mode, first: u64, bytes: &[u8], chainings: &[[u32; 8]]) -> [u32; 8]
     requires count { length chainings.now ≡ chunks (length bytes.now) }
     requires first { first + length chainings.now ≤ 2 ^ 54 }
     requires each { AreChunkChainings mode.now first bytes.now chainings.now }
@@ -86,22 +86,22 @@ fn joined(mode: &Mode, first: u64, bytes: &[u8], chainings: &[[u32; 8]]) -> [u32
     let count = left(chainings.len() as u64);
     let (front, back) = bytes.split_at(CHUNK_LEN * count as usize);
     let (front_chainings, back_chainings) = chainings.split_at(count as usize);
-    let left_chaining = joined(mode, first, front, front_chainings);
-    let right_chaining = joined(mode, first + count, back, back_chainings);
+    let left_chaining = chaining_from_chunks(mode, first, front, front_chainings);
+    let right_chaining = chaining_from_chunks(mode, first + count, back, back_chainings);
     parent_node(mode, &left_chaining, &right_chaining).chaining()
 }
 
-// The chaining values of up to eight chunks, of which the full ones go on lanes. The places from their
+// The chaining values of up to eight chunks, of which the full ones go on lanes. The lists from their
 // number on are of no use.
-fn few_chainings(mode: &Mode, first: u64, bytes: &[u8]) -> [[u32; 8]; 8]
+fn chainings_of_few_chunks(mode: &Mode, first: u64, bytes: &[u8]) -> [[u32; 8]; 8]
     requires some { 1024 ≤ length bytes.now }
     requires few { length bytes.now ≤ 8192 }
     requires first { first + chunks (length bytes.now) ≤ 2 ^ 54 }
     ensures { AreChunkChainings mode.now first bytes.now (take (chunks (length bytes.now)) result) }
 {
     let full = bytes.len() / CHUNK_LEN;
-    let h = chain_few(mode, first, bytes, full);
-    let mut chainings = all_listed(&h);
+    let h = chain_some_lanes(mode, first, bytes, full);
+    let mut chainings = all_lanes(&h);
     if CHUNK_LEN * full < bytes.len() {
         let last = chunk_node(mode, first + full as u64, &bytes[CHUNK_LEN * full..]);
         chainings[full] = last.chaining();
@@ -110,18 +110,18 @@ fn few_chainings(mode: &Mode, first: u64, bytes: &[u8]) -> [[u32; 8]; 8]
 }
 
 // The top of the tree over two to eight chunks.
-pub(crate) fn few_top(mode: &Mode, first: u64, bytes: &[u8]) -> Node
+pub(crate) fn top_of_few_chunks(mode: &Mode, first: u64, bytes: &[u8]) -> Node
     requires some { 1024 < length bytes.now }
     requires few { length bytes.now ≤ 8192 }
     requires first { first + chunks (length bytes.now) ≤ 2 ^ 54 }
     ensures { result ≡ top mode.now first bytes.now }
 {
     let total = chunks(bytes.len() as u64);
-    let chainings = few_chainings(mode, first, bytes);
+    let chainings = chainings_of_few_chunks(mode, first, bytes);
     let count = left(total);
     let (front, back) = bytes.split_at(CHUNK_LEN * count as usize);
     let (front_chainings, back_chainings) = chainings[..total as usize].split_at(count as usize);
-    let left_chaining = joined(mode, first, front, front_chainings);
-    let right_chaining = joined(mode, first + count, back, back_chainings);
+    let left_chaining = chaining_from_chunks(mode, first, front, front_chainings);
+    let right_chaining = chaining_from_chunks(mode, first + count, back, back_chainings);
     parent_node(mode, &left_chaining, &right_chaining)
 }

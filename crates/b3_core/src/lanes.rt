@@ -3,11 +3,11 @@
 
 ghost use Rattle.std.specs.Prelude.{◌≡◌, ℕ, List, [], ◌++◌, ◌+◌, ◌*◌, ◌/◌, ◌%◌, ◌^◌, ◌<◌, ◌≤◌, length, map, take, drop};
 ghost use Rattle.std.specs.Prelude.{slice_index, slice_index_or};
-ghost use Rattle.b3_core.specs.Compression.{compress, half_g, output, permuted, round, rounds, start};
-ghost use Rattle.b3_core.specs.Lanes.{AreWide, lane};
+ghost use Rattle.b3_core.specs.Compression.{compress, half_g, initial_state, output_words, permuted, round, rounds};
+ghost use Rattle.b3_core.specs.Lanes.{AreVectors, lane};
 
 use crate::compression::INITIAL_VALUE;
-use crate::lane_rotations::mixed8;
+use crate::lane_rotations::xor_rotated8;
 use std::simd::prelude::*;
 
 // One half of G on each lane, on the places `a`, `b`, `c` and `d` of the state.
@@ -19,24 +19,24 @@ fn half_g8(v: &mut [u32x8; 16], a: usize, b: usize, c: usize, d: usize, x: u32x8
     requires d { d < 16 }
     requires some { (0 < r) × (0 < s) }
     requires below { (r < 32) × (s < 32) }
-    requires wide { AreWide 16 v.old }
+    requires wide { AreVectors 16 v.old }
     requires x { length x ≡ 8 }
-    ensures wide { AreWide 16 v.new }
+    ensures wide { AreVectors 16 v.new }
     ensures lanes { (j : ℕ) → j < 8 → lane j v.new ≡ half_g (lane j v.old) a b c d (slice_index x j) r s }
 {
     v[a] = v[a] + v[b] + x;
-    v[d] = mixed8(v[d], v[a], r);
+    v[d] = xor_rotated8(v[d], v[a], r);
     v[c] = v[c] + v[d];
-    v[b] = mixed8(v[b], v[c], s);
+    v[b] = xor_rotated8(v[b], v[c], s);
 }
 
 // The four Gs on the columns go step by step together, then those on the diagonals: this leaves the
 // processor more to do at once than one G after another.
 #[inline(always)]
 fn round8(v: &mut [u32x8; 16], m: &[u32x8; 16])
-    requires wide { AreWide 16 v.old }
-    requires message { AreWide 16 m.now }
-    ensures wide { AreWide 16 v.new }
+    requires wide { AreVectors 16 v.old }
+    requires message { AreVectors 16 m.now }
+    ensures wide { AreVectors 16 v.new }
     ensures lanes { (j : ℕ) → j < 8 → lane j v.new ≡ round (lane j v.old) (lane j m.now) }
 {
     half_g8(v, 0, 4, 8, 12, m[0], 16, 12);
@@ -60,8 +60,8 @@ fn round8(v: &mut [u32x8; 16], m: &[u32x8; 16])
 // Renames the vectors, so it costs nothing once it is inlined.
 #[inline(always)]
 fn permuted8(m: &[u32x8; 16]) -> [u32x8; 16]
-    requires wide { AreWide 16 m.now }
-    ensures wide { AreWide 16 result }
+    requires wide { AreVectors 16 m.now }
+    ensures wide { AreVectors 16 result }
     ensures lanes { (j : ℕ) → lane j result ≡ permuted (lane j m.now) }
 {
     [
@@ -75,9 +75,9 @@ fn permuted8(m: &[u32x8; 16]) -> [u32x8; 16]
 // and out.
 #[inline(always)]
 fn rounds8(v: [u32x8; 16], m: &[u32x8; 16]) -> [u32x8; 16]
-    requires wide { AreWide 16 v }
-    requires message { AreWide 16 m.now }
-    ensures wide { AreWide 16 result }
+    requires wide { AreVectors 16 v }
+    requires message { AreVectors 16 m.now }
+    ensures wide { AreVectors 16 result }
     ensures lanes { (j : ℕ) → j < 8 → lane j result ≡ rounds 7 (lane j v) (lane j m.now) }
 {
     let mut v = v;
@@ -97,17 +97,27 @@ fn rounds8(v: [u32x8; 16], m: &[u32x8; 16]) -> [u32x8; 16]
     v
 }
 
-// The state before the first round, of the chaining values `h`, and of the counters' low and high words.
+// The state after seven rounds of eight compressions, of the chaining values `h`, the messages `m`, the low
+// and high words of the counters, one block length `b` and one set of flags `d`, for what needs all sixteen
+// output words.
 #[inline(always)]
-fn start8(h: &[u32x8; 8], low: u32x8, high: u32x8, b: u32, d: u32) -> [u32x8; 16]
-    requires wide { AreWide 8 h.now }
+pub(crate) fn final_states8(
+    h: &[u32x8; 8],
+    m: &[u32x8; 16],
+    low: u32x8,
+    high: u32x8,
+    b: u32,
+    d: u32,
+) -> [u32x8; 16]
+    requires h { AreVectors 8 h.now }
+    requires message { AreVectors 16 m.now }
     requires low { length low ≡ 8 }
     requires high { length high ≡ 8 }
-    ensures wide { AreWide 16 result }
+    ensures wide { AreVectors 16 result }
     ensures lanes { (j t : ℕ) → j < 8 → slice_index low j ≡ t % 2 ^ 32 → slice_index high j ≡ t / 2 ^ 32
-        → lane j result ≡ start (lane j h.now) t b d }
+        → lane j result ≡ rounds 7 (initial_state (lane j h.now) t b d) (lane j m.now) }
 {
-    [
+    let initial_state = [
         h[0],
         h[1],
         h[2],
@@ -124,15 +134,16 @@ fn start8(h: &[u32x8; 8], low: u32x8, high: u32x8, b: u32, d: u32) -> [u32x8; 16
         high,
         u32x8::splat(b),
         u32x8::splat(d),
-    ]
+    ];
+    rounds8(initial_state, m)
 }
 
 // The first eight output words, which do not read the chaining values.
 #[inline(always)]
-pub(crate) fn front8(v: &[u32x8; 16]) -> [u32x8; 8]
-    requires wide { AreWide 16 v.now }
-    ensures wide { AreWide 8 result }
-    ensures lanes { (j : ℕ) (h : List ℕ) → j < 8 → lane j result ≡ take 8 (output (lane j v.now) h) }
+pub(crate) fn first_words8(v: &[u32x8; 16]) -> [u32x8; 8]
+    requires wide { AreVectors 16 v.now }
+    ensures wide { AreVectors 8 result }
+    ensures lanes { (j : ℕ) (h : List ℕ) → j < 8 → lane j result ≡ take 8 (output_words (lane j v.now) h) }
 {
     [
         v[0] ^ v[8],
@@ -148,11 +159,11 @@ pub(crate) fn front8(v: &[u32x8; 16]) -> [u32x8; 8]
 
 // The last eight output words.
 #[inline(always)]
-pub(crate) fn back8(v: &[u32x8; 16], h: &[u32x8; 8]) -> [u32x8; 8]
-    requires wide { AreWide 16 v.now }
-    requires h { AreWide 8 h.now }
-    ensures wide { AreWide 8 result }
-    ensures lanes { (j : ℕ) → j < 8 → lane j result ≡ drop 8 (output (lane j v.now) (lane j h.now)) }
+pub(crate) fn last_words8(v: &[u32x8; 16], h: &[u32x8; 8]) -> [u32x8; 8]
+    requires wide { AreVectors 16 v.now }
+    requires h { AreVectors 8 h.now }
+    ensures wide { AreVectors 8 result }
+    ensures lanes { (j : ℕ) → j < 8 → lane j result ≡ drop 8 (output_words (lane j v.now) (lane j h.now)) }
 {
     [
         v[8] ^ h[0],
@@ -177,108 +188,22 @@ pub(crate) fn chainings8(
     b: u32,
     d: u32,
 ) -> [u32x8; 8]
-    requires h { AreWide 8 h.now }
-    requires message { AreWide 16 m.now }
+    requires h { AreVectors 8 h.now }
+    requires message { AreVectors 16 m.now }
     requires low { length low ≡ 8 }
     requires high { length high ≡ 8 }
-    ensures wide { AreWide 8 result }
+    ensures wide { AreVectors 8 result }
     ensures lanes { (j t : ℕ) → j < 8 → slice_index low j ≡ t % 2 ^ 32 → slice_index high j ≡ t / 2 ^ 32
         → lane j result ≡ take 8 (compress (lane j h.now) (lane j m.now) t b d) }
 {
-    let v = start8(h, low, high, b, d);
-    let v = rounds8(v, m);
-    front8(&v)
-}
-
-// Word `i` of each of eight lists.
-#[inline(always)]
-fn gathered<const N: usize>(lists: &[[u32; N]; 8], i: usize) -> u32x8
-    requires { i < N }
-    ensures { result ≡ map (λ list. slice_index list i) lists.now }
-{
-    u32x8::from_array([
-        lists[0][i],
-        lists[1][i],
-        lists[2][i],
-        lists[3][i],
-        lists[4][i],
-        lists[5][i],
-        lists[6][i],
-        lists[7][i],
-    ])
-}
-
-// That a list has its length. A proof is not told the length of a list within a list.
-#[inline(always)]
-fn known_length<const N: usize>(list: &[u32; N])
-    ensures { length list.now ≡ N }
-{}
-
-#[inline(always)]
-fn known_lengths<const N: usize>(lists: &[[u32; N]; 8])
-    ensures { (j : ℕ) → j < 8 → length (slice_index_or lists.now j []) ≡ N }
-{
-    known_length(&lists[0]);
-    known_length(&lists[1]);
-    known_length(&lists[2]);
-    known_length(&lists[3]);
-    known_length(&lists[4]);
-    known_length(&lists[5]);
-    known_length(&lists[6]);
-    known_length(&lists[7]);
-}
-
-// Lane `j` takes list `j`.
-#[inline(always)]
-fn gathered8(lists: &[[u32; 8]; 8]) -> [u32x8; 8]
-    ensures wide { AreWide 8 result }
-    ensures lanes { (j : ℕ) → j < 8 → lane j result ≡ slice_index_or lists.now j [] }
-{
-    known_lengths(lists);
-    [
-        gathered(lists, 0),
-        gathered(lists, 1),
-        gathered(lists, 2),
-        gathered(lists, 3),
-        gathered(lists, 4),
-        gathered(lists, 5),
-        gathered(lists, 6),
-        gathered(lists, 7),
-    ]
-}
-
-// The same for lists of sixteen words.
-#[inline(always)]
-fn gathered16(lists: &[[u32; 16]; 8]) -> [u32x8; 16]
-    ensures wide { AreWide 16 result }
-    ensures lanes { (j : ℕ) → j < 8 → lane j result ≡ slice_index_or lists.now j [] }
-{
-    known_lengths(lists);
-    [
-        gathered(lists, 0),
-        gathered(lists, 1),
-        gathered(lists, 2),
-        gathered(lists, 3),
-        gathered(lists, 4),
-        gathered(lists, 5),
-        gathered(lists, 6),
-        gathered(lists, 7),
-        gathered(lists, 8),
-        gathered(lists, 9),
-        gathered(lists, 10),
-        gathered(lists, 11),
-        gathered(lists, 12),
-        gathered(lists, 13),
-        gathered(lists, 14),
-        gathered(lists, 15),
-    ]
+    first_words8(&final_states8(h, m, low, high, b, d))
 }
 
 // What lane `j` holds.
 #[inline(always)]
-pub(crate) fn listed(v: &[u32x8; 8], j: usize) -> [u32; 8]
+pub(crate) fn lane_words(v: &[u32x8; 8], j: usize) -> [u32; 8]
     requires in_range { j < 8 }
-    requires wide { AreWide 8 v.now }
+    requires wide { AreVectors 8 v.now }
     ensures { result ≡ lane j v.now }
 {
     [
@@ -295,28 +220,28 @@ pub(crate) fn listed(v: &[u32x8; 8], j: usize) -> [u32; 8]
 
 // What each lane holds.
 #[inline(always)]
-pub(crate) fn all_listed(v: &[u32x8; 8]) -> [[u32; 8]; 8]
-    requires { AreWide 8 v.now }
+pub(crate) fn all_lanes(v: &[u32x8; 8]) -> [[u32; 8]; 8]
+    requires { AreVectors 8 v.now }
     ensures { (j : ℕ) → j < 8 → slice_index_or result j [] ≡ lane j v.now }
 {
     [
-        listed(v, 0),
-        listed(v, 1),
-        listed(v, 2),
-        listed(v, 3),
-        listed(v, 4),
-        listed(v, 5),
-        listed(v, 6),
-        listed(v, 7),
+        lane_words(v, 0),
+        lane_words(v, 1),
+        lane_words(v, 2),
+        lane_words(v, 3),
+        lane_words(v, 4),
+        lane_words(v, 5),
+        lane_words(v, 6),
+        lane_words(v, 7),
     ]
 }
 
 // Rows turned into columns: vector `j` of the result has what lane `j` holds. No word leaves its half of
 // a vector before the last step.
 #[inline(always)]
-pub(crate) fn turned8(v: &[u32x8; 8]) -> [u32x8; 8]
-    requires { AreWide 8 v.now }
-    ensures wide { AreWide 8 result }
+pub(crate) fn transposed8(v: &[u32x8; 8]) -> [u32x8; 8]
+    requires { AreVectors 8 v.now }
+    ensures wide { AreVectors 8 result }
     ensures lanes { (j : ℕ) → j < 8 → slice_index_or result j [] ≡ lane j v.now }
 {
     let a0 = v[0].shuffle::<8>(v[1], [0, 8, 1, 9, 4, 12, 5, 13]);
@@ -349,7 +274,7 @@ pub(crate) fn turned8(v: &[u32x8; 8]) -> [u32x8; 8]
 
 // The words of two vectors, as one list.
 #[inline(always)]
-pub(crate) fn words_of_both(front: u32x8, back: u32x8) -> [u32; 16]
+pub(crate) fn concatenated(front: u32x8, back: u32x8) -> [u32; 16]
     requires front { length front ≡ 8 }
     requires back { length back ≡ 8 }
     ensures { result ≡ front ++ back }
@@ -410,59 +335,4 @@ pub(crate) fn counters_from(first: u64) -> (u32x8, u32x8)
         first + 6,
         first + 7,
     ])
-}
-
-// The state after seven rounds of eight compressions, of the chaining values `h`, the messages `m`, the low
-// and high words of the counters, one block length `b` and one set of flags `d`, for what needs all sixteen
-// output words.
-#[inline(always)]
-pub(crate) fn states8(
-    h: &[u32x8; 8],
-    m: &[u32x8; 16],
-    low: u32x8,
-    high: u32x8,
-    b: u32,
-    d: u32,
-) -> [u32x8; 16]
-    requires h { AreWide 8 h.now }
-    requires message { AreWide 16 m.now }
-    requires low { length low ≡ 8 }
-    requires high { length high ≡ 8 }
-    ensures wide { AreWide 16 result }
-    ensures lanes { (j t : ℕ) → j < 8 → slice_index low j ≡ t % 2 ^ 32 → slice_index high j ≡ t / 2 ^ 32
-        → lane j result ≡ rounds 7 (start (lane j h.now) t b d) (lane j m.now) }
-{
-    let v = start8(h, low, high, b, d);
-    rounds8(v, m)
-}
-
-/// Eight compressions at once (BLAKE3 (2020), 2.2): list `j` of the result has the output words for the
-/// chaining value `h[j]`, the message `m[j]` and the counter `t[j]`, with one block length `b` and one
-/// set of flags `d` for all.
-pub fn compress8(
-    h: &[[u32; 8]; 8],
-    m: &[[u32; 16]; 8],
-    t: &[u64; 8],
-    b: u32,
-    d: u32,
-) -> [[u32; 16]; 8]
-    ensures { (j : ℕ) → j < 8 → slice_index_or result j []
-        ≡ compress (slice_index_or h.now j []) (slice_index_or m.now j []) (slice_index t.now j) b d }
-{
-    let chains = gathered8(h);
-    let message = gathered16(m);
-    let (low, high) = counters(t);
-    let v = states8(&chains, &message, low, high, b, d);
-    let front = turned8(&front8(&v));
-    let back = turned8(&back8(&v, &chains));
-    [
-        words_of_both(front[0], back[0]),
-        words_of_both(front[1], back[1]),
-        words_of_both(front[2], back[2]),
-        words_of_both(front[3], back[3]),
-        words_of_both(front[4], back[4]),
-        words_of_both(front[5], back[5]),
-        words_of_both(front[6], back[6]),
-        words_of_both(front[7], back[7]),
-    ]
 }

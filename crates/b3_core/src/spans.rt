@@ -1,10 +1,15 @@
-// The subtrees of the tree over `n` chunks (BLAKE3 (2020), 2.1), told by tests of bits.
+// Spans of chunks, and which of them are subtrees of the tree over `n` chunks (BLAKE3 (2020), 2.1), by tests of bits.
 
 ghost use Rattle.std.specs.Prelude.{IfSome, IsSome, IsTrue, Some, ◌↔◌, ◌≡◌, ◌^◌, ◌<◌, ◌≤◌};
 ghost use Rattle.b3_core.specs.Subtrees.{AreSiblings, IsSubtree};
-ghost use Rattle.b3_core.specs.declared.tree.Span.{Span};
+ghost use Rattle.b3_core.specs.declared.spans.Span.{Span};
 
-use crate::tree::Span;
+/// A run of chunks: the number of its first chunk, and how many it has.
+#[derive(Clone, Copy, Debug, PartialEq, Eq)]
+pub struct Span {
+    pub first: u64,
+    pub count: u64,
+}
 
 /// Whether the span is a subtree of the tree over `n` chunks (BLAKE3 (2020), 2.1).
 pub fn is_subtree(n: u64, span: Span) -> bool

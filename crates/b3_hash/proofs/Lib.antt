@@ -1,5 +1,5 @@
 -- chunks and their blocks
-pub mod BegunChunks  -- a chunk that is begun: more bytes, a block closed, its node
+pub mod ChunkStates  -- an open chunk: more bytes, a block closed, its node
 -- subtrees and the stack
 pub mod ChunkCounts  -- numbers of chunks: their binary digits, and the runs of 2 ^ level chunks in them
 pub mod Runs  -- the subtrees over runs of 2 ^ level chunks

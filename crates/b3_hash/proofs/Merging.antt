@@ -6,9 +6,9 @@ use Rattle.std.proofs.lemmas.List.{same_from_push}
 use Rattle.b3_core.specs.Nodes.{chaining}
 use Rattle.b3_core.specs.Tree.{parent_node}
 use Rattle.b3_core.specs.declared.modes.Mode.{Mode}
-use Rattle.b3_hash.specs.Stacks.{stack_of, subtree}
+use Rattle.b3_hash.specs.Stacks.{stack_of, subtree_chaining}
 use Rattle.b3_hash.proofs.ChunkCounts.{bytes-above, bytes-half, div-pow-suc, parity}
-use Rattle.b3_hash.proofs.Runs.{subtree-append, subtree-suc}
+use Rattle.b3_hash.proofs.Runs.{subtree_chaining-append, subtree_chaining-suc}
 
 -- where n is even, the runs go in pairs
 pub stack_of-even : (digits level : ℕ) (mode : Mode) (input : List ℕ) (n : ℕ) → n % 2 ≡ 0
@@ -19,7 +19,7 @@ stack_of-even digits level mode input n even = rw even refl
 -- where n is odd, the last run stands on the top
 pub stack_of-odd : (digits level : ℕ) (mode : Mode) (input : List ℕ) (n : ℕ) → n % 2 ≡ 1
     → stack_of (suc digits) level mode input n
-    ≡ stack_of digits (suc level) mode input (n / 2) ++ subtree mode level input (n - 1) ∷ []
+    ≡ stack_of digits (suc level) mode input (n / 2) ++ subtree_chaining mode level input (n - 1) ∷ []
 unfolding stack_of
 stack_of-odd digits level mode input n odd = rw odd refl
 
@@ -43,8 +43,8 @@ stack_of-append (suc digits) level mode input more n within =
           ∙ sym (stack_of-even digits level mode input n even)
       | inr odd ↦
           let count : n - 1 + 1 ≡ n = omega arith in
-          let last : subtree mode level (input ++ more) (n - 1) ≡ subtree mode level input (n - 1) =
-          subtree-append level mode input more (n - 1) (rw count within) in
+          let last : subtree_chaining mode level (input ++ more) (n - 1) ≡ subtree_chaining mode level input (n - 1) =
+          subtree_chaining-append level mode input more (n - 1) (rw count within) in
           stack_of-odd digits level mode (input ++ more) n odd
           ∙ (λ i. others i ++ last i ∷ [])
           ∙ sym (stack_of-odd digits level mode input n odd)
@@ -54,7 +54,7 @@ stack_of-append (suc digits) level mode input more n within =
 -- has this value, and the stack is that of the runs before
 pub record IsMerged (mode : Mode) (input : List ℕ) (digits base total rise : ℕ) (values : List (List ℕ))
     (value : List ℕ) : Type 0 where
-  pub last : value ≡ subtree mode (base + rise) input (total / 2 ^ rise - 1)
+  pub last : value ≡ subtree_chaining mode (base + rise) input (total / 2 ^ rise - 1)
   pub before : values ≡ stack_of (digits - rise) (base + rise) mode input (total / 2 ^ rise - 1)
   pub whole : stack_of (digits - rise) (base + rise) mode input (total / 2 ^ rise)
       ≡ stack_of digits base mode input total
@@ -82,22 +82,25 @@ IsMerged-suc mode input digits base total rise values others value left next mer
     let runs : 2 * i + 2 ≡ n = omega arith in
     let all : 1024 * 2 ^ level * n ≤ 1024 * 2 ^ base * total = bytes-above base rise total in
     let within : 1024 * 2 ^ level * (2 * i + 2) ≤ length input = rw runs (omega arith) in
-    let stack : others ++ left ∷ [] ≡ stack_of fewer (suc level) mode input i ++ subtree mode level input (2 * i) ∷ [] =
+    let stack : others ++ left ∷ [] ≡ stack_of fewer (suc level) mode input i
+    ++ subtree_chaining mode level input (2 * i) ∷ [] =
     sym popped
     ∙ merged.before
     ∙ ap (λ d. stack_of d level mode input (n - 1)) digits_is
     ∙ stack_of-odd fewer level mode input (n - 1) odd
-    ∙ (λ j. stack_of fewer (suc level) mode input (pair j) ++ subtree mode level input (left_is j) ∷ []) in
+    ∙ (λ j. stack_of fewer (suc level) mode input (pair j) ++ subtree_chaining mode level input (left_is j) ∷ []) in
     let parts =
-    same_from_push others (stack_of fewer (suc level) mode input i) left (subtree mode level input (2 * i)) stack in
-    let right : value ≡ subtree mode level input (2 * i + 1) = merged.last ∙ ap (subtree mode level input) right_is in
+    same_from_push others (stack_of fewer (suc level) mode input i) left
+    (subtree_chaining mode level input (2 * i)) stack in
+    let right : value ≡ subtree_chaining mode level input (2 * i + 1) = merged.last
+    ∙ ap (subtree_chaining mode level input) right_is in
     let above : total / 2 ^ suc rise - 1 ≡ i = ap (λ k. k - 1) half in
     let up : suc level ≡ base + suc rise = omega arith in
     rw add-one (record {
       last = next_is
           ∙ (λ j. chaining (parent_node mode (parts.1 j) (right j)))
-          ∙ sym (subtree-suc level mode input i within)
-          ∙ (λ j. subtree mode (up j) input (sym above j));
+          ∙ sym (subtree_chaining-suc level mode input i within)
+          ∙ (λ j. subtree_chaining mode (up j) input (sym above j));
       before = parts.0 ∙ (λ j. stack_of fewer (up j) mode input (sym above j));
       whole = (λ j. stack_of fewer (sym up j) mode input (half j))
           ∙ sym (stack_of-even fewer level mode input n even)
@@ -129,7 +132,7 @@ IsMerged-odd mode input digits base total rise values value merged high odd =
 
 -- nothing is merged yet
 pub IsMerged-none : (mode : Mode) (input : List ℕ) (digits base total : ℕ) (values : List (List ℕ)) (value : List ℕ)
-    → value ≡ subtree mode base input (total - 1)
+    → value ≡ subtree_chaining mode base input (total - 1)
     → values ≡ stack_of digits base mode input (total - 1)
     → IsMerged mode input digits base total 0 values value
 IsMerged-none mode input digits base total values value value_is values_is =
@@ -137,7 +140,7 @@ IsMerged-none mode input digits base total values value value_is values_is =
     let less : total - 1 ≡ total / 2 ^ 0 - 1 = omega arith in
     let level : base ≡ base + 0 = omega arith in
     let all : digits ≡ digits - 0 = omega arith in record {
-      last = value_is ∙ (λ j. subtree mode (level j) input (less j));
+      last = value_is ∙ (λ j. subtree_chaining mode (level j) input (less j));
       before = values_is ∙ (λ j. stack_of (all j) (level j) mode input (less j));
       whole = λ j. stack_of (sym all j) (sym level j) mode input (one j);
     }

@@ -3,7 +3,7 @@
 ghost use Rattle.std.specs.Prelude.{◌≡◌, ℕ, ◌+◌, ◌*◌, ◌%◌, ◌^◌, ◌<◌, ◌≤◌, [], ◌++◌, List, length};
 
 use crate::open_chunk::OpenChunk;
-use crate::subtrees::Subtrees;
+use crate::subtree_stack::SubtreeStack;
 use crate::window::Window;
 use b3_core::{CHUNK_LEN, Mode, Node, top};
 use std::marker::Model;
@@ -13,23 +13,23 @@ use std::marker::Model;
 #[derive(Drop)]
 pub(crate) struct ChunkHasher {
     mode: Mode,
-    closed: Subtrees,
+    closed: SubtreeStack,
     last: OpenChunk,
 }
 
 impl Model for ChunkHasher {
-    ghost use Rattle.b3_hash.specs.ChunkHashers.{Chunks};
+    ghost use Rattle.b3_hash.specs.ChunkHashers.{ChunkHasherState};
 
-    ghost Value = { Chunks };
+    ghost Value = { ChunkHasherState };
 
     ghost use Rattle.std.specs.Prelude.{◌+◌, ◌*◌, ◌^◌, ◌<◌};
-    ghost use Rattle.b3_hash.specs.OpenChunks.{begun_of};
+    ghost use Rattle.b3_hash.specs.Private.{chunk_state_of};
 
     ghost view = { λ s. record {
       mode = s.mode;
       count = s.closed.chunks;
       stack = s.closed.values.items;
-      begun = begun_of s.last;
+      chunk_state = chunk_state_of s.last;
     } };
 
     ghost invariant = { λ s. 1024 * s.closed.chunks + (64 * s.last.closed_blocks + s.last.block_len) < 2 ^ 64 };
@@ -38,8 +38,9 @@ impl Model for ChunkHasher {
 impl ChunkHasher {
     ghost use Rattle.b3_core.specs.Tree.{top};
     ghost use Rattle.b3_hash.specs.ChunkHashers.{EndsWithChunk, IsAllClosed, chunks_len};
-    ghost use Rattle.b3_hash.specs.Hashers.{EndsWith, IsWellHeld, window_len};
-    ghost use Rattle.b3_hash.specs.OpenChunks.{begun_len};
+    ghost use Rattle.b3_hash.specs.Hashers.{EndsWith, window_len};
+    ghost use Rattle.b3_hash.specs.OpenChunks.{chunk_state_len};
+    ghost use Rattle.b3_hash.specs.Private.{HasValidWindow};
 
     // Of no bytes.
     pub(crate) fn new(mode: Mode) -> ChunkHasher
@@ -47,7 +48,7 @@ impl ChunkHasher {
         ensures ends_with { EndsWithChunk result [] }
         ensures len { chunks_len result ≡ 0 }
     {
-        let closed = Subtrees::new();
+        let closed = SubtreeStack::new();
         let last = OpenChunk::new(&mode);
         ChunkHasher { mode, closed, last }
     }
@@ -82,15 +83,15 @@ impl ChunkHasher {
         requires { chunks_len self.old + length input.now < 2 ^ 64 }
         ensures mode { self.new.mode ≡ self.old.mode }
         ensures len { chunks_len self.new + window_len result ≡ chunks_len self.old + length input.now }
-        ensures well_held { IsWellHeld self.new result }
+        ensures valid_window { HasValidWindow self.new result }
         ensures ends_with { (before : List ℕ) → EndsWithChunk self.old before
             → EndsWith self.new result (before ++ input.now) }
     {
-        let begun = self.last.len();
-        if begun == 0 {
+        let filled = self.last.len();
+        if filled == 0 {
             return self.append_chunks(input);
         }
-        let (front, rest) = input.split_at(input.len().min(CHUNK_LEN - begun));
+        let (front, rest) = input.split_at(input.len().min(CHUNK_LEN - filled));
         self.extend_chunk(front);
         // Where no byte is left, the chunk stays open, also a full one: it may be the root.
         if rest.is_empty() {
@@ -100,26 +101,27 @@ impl ChunkHasher {
         self.append_chunks(rest)
     }
 
-    // Takes in bytes of the chunk that is begun.
+    // Takes in bytes of the open chunk, which has some already.
     fn extend_chunk(&mut self, front: &[u8])
-        requires begun { 0 < begun_len self.old.begun }
-        requires room { begun_len self.old.begun + length front.now ≤ 1024 }
+        requires chunk_state { 0 < chunk_state_len self.old.chunk_state }
+        requires room { chunk_state_len self.old.chunk_state + length front.now ≤ 1024 }
         requires fits { chunks_len self.old + length front.now < 2 ^ 64 }
         ensures mode { self.new.mode ≡ self.old.mode }
         ensures len { chunks_len self.new ≡ chunks_len self.old + length front.now }
-        ensures begun { begun_len self.new.begun ≡ begun_len self.old.begun + length front.now }
+        ensures chunk_state { chunk_state_len self.new.chunk_state
+            ≡ chunk_state_len self.old.chunk_state + length front.now }
         ensures ends_with { (before : List ℕ) → EndsWithChunk self.old before
             → EndsWithChunk self.new (before ++ front.now) }
     {
         self.last.append(&self.mode, self.closed.chunks, front);
     }
 
-    // Closes the chunk that is begun, which is full.
+    // Closes the open chunk, which is full.
     fn close_chunk(&mut self)
-        requires { begun_len self.old.begun ≡ 1024 }
+        requires { chunk_state_len self.old.chunk_state ≡ 1024 }
         ensures mode { self.new.mode ≡ self.old.mode }
         ensures len { chunks_len self.new ≡ chunks_len self.old }
-        ensures empty { begun_len self.new.begun ≡ 0 }
+        ensures empty { chunk_state_len self.new.chunk_state ≡ 0 }
         ensures closed { (input : List ℕ) → EndsWithChunk self.old input → IsAllClosed self.new input }
     {
         let value = self.last.node(&self.mode, self.closed.chunks).chaining();
@@ -127,14 +129,14 @@ impl ChunkHasher {
         self.last = OpenChunk::new(&self.mode);
     }
 
-    // Takes in bytes where no chunk is begun, and hands back the last window, where they end with one.
+    // Takes in bytes where the open chunk has none, and hands back the last window, where they end with one.
     // After closed chunks there has to be a byte, since one of them would else be the last.
     pub(crate) fn append_chunks(&mut self, input: &[u8]) -> Option<Window>
-        requires empty { begun_len self.old.begun ≡ 0 }
+        requires empty { chunk_state_len self.old.chunk_state ≡ 0 }
         requires fits { chunks_len self.old + length input.now < 2 ^ 64 }
         ensures mode { self.new.mode ≡ self.old.mode }
         ensures len { chunks_len self.new + window_len result ≡ chunks_len self.old + length input.now }
-        ensures well_held { IsWellHeld self.new result }
+        ensures valid_window { HasValidWindow self.new result }
         ensures ends_with { (before : List ℕ) → IsAllClosed self.old before
             → (0 < self.old.count → 0 < length input.now) → EndsWith self.new result (before ++ input.now) }
     {
@@ -152,7 +154,7 @@ impl ChunkHasher {
         requires { chunks_len self.old % 1024 ≡ 0 }
         ensures mode { self.new.mode ≡ self.old.mode }
         ensures len { chunks_len self.new ≡ chunks_len self.old }
-        ensures empty { begun_len self.new.begun ≡ 0 }
+        ensures empty { chunk_state_len self.new.chunk_state ≡ 0 }
         ensures closed { (input : List ℕ) → EndsWithChunk self.old input → IsAllClosed self.new input }
     {
         if self.last.len() != 0 {
@@ -160,15 +162,15 @@ impl ChunkHasher {
         }
     }
 
-    // Takes in the next 2^level chunks by the node of their subtree, where no chunk is begun.
+    // Takes in the next 2^level chunks by the node of their subtree, where the open chunk has no bytes.
     pub(crate) fn push_subtree(&mut self, node: &Node, level: u32)
-        requires empty { begun_len self.old.begun ≡ 0 }
+        requires empty { chunk_state_len self.old.chunk_state ≡ 0 }
         requires level { level < 54 }
         requires fits { 1024 * (self.old.count + 2 ^ level) < 2 ^ 64 }
         requires aligned { self.old.count % 2 ^ level ≡ 0 }
         ensures mode { self.new.mode ≡ self.old.mode }
         ensures count { self.new.count ≡ self.old.count + 2 ^ level }
-        ensures empty { begun_len self.new.begun ≡ 0 }
+        ensures empty { chunk_state_len self.new.chunk_state ≡ 0 }
         ensures closed { (before bytes : List ℕ) → IsAllClosed self.old before → length bytes ≡ 1024 * 2 ^ level
             → node.now ≡ top self.old.mode self.old.count bytes → IsAllClosed self.new (before ++ bytes) }
     {

@@ -5,7 +5,7 @@ ghost use Rattle.std.specs.Prelude.{codes, length, IsErr, OnErr, OnOk};
 
 use crate::chunk_hasher::ChunkHasher;
 use crate::output::Xof;
-use crate::subtrees::subtree_len;
+use crate::subtree_stack::subtree_len;
 use crate::window::Window;
 use b3_core::{Mode, Node};
 use std::error::Error;
@@ -71,20 +71,21 @@ impl fmt::Debug for Hasher {
 }
 
 impl Model for Hasher {
-    ghost use Rattle.b3_hash.specs.Hashers.{State, IsWellHeld};
+    ghost use Rattle.b3_hash.specs.Hashers.{HasherState};
+    ghost use Rattle.b3_hash.specs.Private.{HasValidWindow};
 
-    ghost Value = { State };
+    ghost Value = { HasherState };
 
     ghost view = { λ s. record { chunks = s.chunks; window = s.window } };
 
-    ghost invariant = { λ s. IsWellHeld s.chunks s.window };
+    ghost invariant = { λ s. HasValidWindow s.chunks s.window };
 }
 
 impl Hasher {
     ghost use Rattle.b3_core.specs.Tree.{top};
     ghost use Rattle.b3_hash.specs.ChunkHashers.{IsAllClosed, chunks_len};
     ghost use Rattle.b3_hash.specs.Hashers.{StandsFor, length_of, mode_of, push_answer};
-    ghost use Rattle.b3_hash.specs.OpenChunks.{begun_len};
+    ghost use Rattle.b3_hash.specs.OpenChunks.{chunk_state_len};
 
     /// A hasher of an input in this mode, of which no bytes have come.
     pub fn new(mode: Mode) -> Hasher
@@ -182,12 +183,12 @@ impl Hasher {
         if size > u64::MAX - len {
             return Err(WindowFault::TooLong);
         }
-        self.hold(node, level);
+        self.push_aligned(node, level);
         Ok(())
     }
 
     // Takes in a window that is aligned and fits.
-    fn hold(&mut self, node: Node, level: u32)
+    fn push_aligned(&mut self, node: Node, level: u32)
         requires level { level < 54 }
         requires aligned { length_of self.old % (1024 * 2 ^ level) ≡ 0 }
         requires fits { length_of self.old + 1024 * 2 ^ level < 2 ^ 64 }
@@ -208,7 +209,7 @@ impl Hasher {
         ensures mode { mode_of self.new ≡ mode_of self.old }
         ensures len { chunks_len self.new.chunks ≡ length_of self.old }
         ensures none { self.new.window ≡ None }
-        ensures empty { begun_len self.new.chunks.begun ≡ 0 }
+        ensures empty { chunk_state_len self.new.chunks.chunk_state ≡ 0 }
         ensures closed { (input : List ℕ) → StandsFor self.old input → IsAllClosed self.new.chunks input }
     {
         match self.window {

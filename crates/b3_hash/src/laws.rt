@@ -2,7 +2,7 @@
 
 ghost use Rattle.std.specs.Prelude.{◌≡◌, ℕ, ◌+◌, ◌^◌, ◌<◌, All, length, sum_by};
 ghost use Rattle.b3_core.specs.Tree.{top};
-ghost use Rattle.b3_hash.specs.Laws.{joined, bytes_read};
+ghost use Rattle.b3_hash.specs.Laws.{concatenated, bytes_read};
 
 use crate::hasher::Hasher;
 use crate::output::Xof;
@@ -11,8 +11,8 @@ use b3_core::Mode;
 /// The output of an input of fewer than 2^64 bytes that comes in these pieces: that of the input as a
 /// whole, however it is cut.
 pub fn output_of_pieces(mode: Mode, pieces: &[&[u8]]) -> Xof
-    requires { length (joined pieces.now) < 2 ^ 64 }
-    ensures { result ≡ record { node = top mode 0 (joined pieces.now); place = 0 } }
+    requires { length (concatenated pieces.now) < 2 ^ 64 }
+    ensures { result ≡ record { node = top mode 0 (concatenated pieces.now); place = 0 } }
 {
     let mut hasher = Hasher::new(mode);
     for piece in pieces {

@@ -11,7 +11,7 @@ mod hashes;
 mod laws;
 mod open_chunk;
 mod output;
-mod subtrees;
+mod subtree_stack;
 mod window;
 
 pub use derivation::derive_mode;

@@ -20,13 +20,14 @@ pub(crate) struct OpenChunk {
 impl OpenChunk {
     ghost use Rattle.b3_core.specs.Chunks.{chunk_node};
     ghost use Rattle.b3_core.specs.declared.modes.Mode.{Mode};
-    ghost use Rattle.b3_hash.specs.OpenChunks.{HasBytes, IsBegun, begun_of};
+    ghost use Rattle.b3_hash.specs.OpenChunks.{HasBytes, IsChunkState};
+    ghost use Rattle.b3_hash.specs.Private.{chunk_state_of};
 
     // A chunk of no bytes.
     pub(crate) fn new(mode: &Mode) -> OpenChunk
         ensures blocks { result.closed_blocks ≡ 0 }
         ensures len { result.block_len ≡ 0 }
-        ensures begun { (number : ℕ) → IsBegun mode.now number (begun_of result) [] }
+        ensures chunk_state { (number : ℕ) → IsChunkState mode.now number (chunk_state_of result) [] }
     {
         OpenChunk {
             h: mode.key,
@@ -44,7 +45,7 @@ impl OpenChunk {
 
     // The node of the chunk as it is.
     pub(crate) fn node(&self, mode: &Mode, number: u64) -> Node
-        ensures { (bytes : List ℕ) → IsBegun mode.now number (begun_of self.now) bytes
+        ensures { (bytes : List ℕ) → IsChunkState mode.now number (chunk_state_of self.now) bytes
             → result ≡ chunk_node mode.now number bytes }
     {
         let block = &self.block[..self.block_len];
@@ -57,8 +58,8 @@ impl OpenChunk {
         ensures len { 64 * self.new.closed_blocks + self.new.block_len
             ≡ 64 * self.old.closed_blocks + self.old.block_len }
         ensures room { self.new.block_len < 64 }
-        ensures bytes { (bytes : List ℕ) → HasBytes mode.now number (begun_of self.old) bytes
-            → HasBytes mode.now number (begun_of self.new) bytes }
+        ensures bytes { (bytes : List ℕ) → HasBytes mode.now number (chunk_state_of self.old) bytes
+            → HasBytes mode.now number (chunk_state_of self.new) bytes }
     {
         if self.block_len < BLOCK_LEN {
             return;
@@ -76,8 +77,8 @@ impl OpenChunk {
         ensures blocks { self.new.closed_blocks ≡ self.old.closed_blocks }
         ensures len { self.new.block_len ≡ self.old.block_len + length piece.now }
         ensures bytes { (mode : Mode) (number : ℕ) (bytes : List ℕ)
-            → HasBytes mode number (begun_of self.old) bytes
-            → HasBytes mode number (begun_of self.new) (bytes ++ piece.now) }
+            → HasBytes mode number (chunk_state_of self.old) bytes
+            → HasBytes mode number (chunk_state_of self.new) (bytes ++ piece.now) }
     {
         let end = self.block_len + piece.len();
         self.block[self.block_len..end].copy_from_slice(piece);
@@ -90,8 +91,8 @@ impl OpenChunk {
         requires { 64 * self.old.closed_blocks + self.old.block_len + length bytes.now ≤ 1024 }
         ensures len { 64 * self.new.closed_blocks + self.new.block_len
             ≡ 64 * self.old.closed_blocks + self.old.block_len + length bytes.now }
-        ensures begun { (before : List ℕ) → IsBegun mode.now number (begun_of self.old) before
-            → IsBegun mode.now number (begun_of self.new) (before ++ bytes.now) }
+        ensures chunk_state { (before : List ℕ) → IsChunkState mode.now number (chunk_state_of self.old) before
+            → IsChunkState mode.now number (chunk_state_of self.new) (before ++ bytes.now) }
     {
         let mut at = 0;
         while at < bytes.len() {

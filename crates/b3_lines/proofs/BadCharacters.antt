@@ -10,7 +10,7 @@ use Rattle.std.proofs.lemmas.List.{get_or_default}
 use Rattle.std.proofs.lemmas.List.Prefix.{front_fits, front_from_reads, front_reads}
 use Rattle.std.proofs.lemmas.Slice.Eq.{starts_is}
 use Rattle.memchr.specs.Find.{FindsNeedle, IsFirstByte, OccursAt}
-use Rattle.b3_lines.specs.Names.{Piece, Spells, backslash, carriage_return, has_bad_escape, holds_bad_character, holds_replacement, itself, line_feed, meaning, replacement, spelling, unescaped}
+use Rattle.b3_lines.specs.Names.{Piece, Spells, backslash, carriage_return, has_bad_escape, holds_bad_character, holds_replacement_character, itself, line_feed, meaning, replacement_character, spelling, unescaped}
 use Rattle.b3_lines.specs.Reading.{name_of}
 use Rattle.b3_lines.proofs.Escapes.{Spells-from_lawful}
 
@@ -24,57 +24,64 @@ is_some-IsFirstByte p s None none =
 is_some-IsFirstByte p s (Some k) found = sym (list_any_at p s k 0 found.0.high found.1)
 
 -- the test at a byte and what follows it
-holds_replacement-cons : (b : ℕ) (s : List ℕ)
-    → holds_replacement (b ∷ s) ≡ (starts_with nat_eq (b ∷ s) replacement || holds_replacement s)
-unfolding holds_replacement
-holds_replacement-cons b s = refl
+holds_replacement_character-cons : (b : ℕ) (s : List ℕ)
+    → holds_replacement_character (b ∷ s) ≡ (starts_with nat_eq (b ∷ s) replacement_character
+    || holds_replacement_character s)
+unfolding holds_replacement_character
+holds_replacement_character-cons b s = refl
 
 -- nothing holds U+FFFD in no bytes
-holds_replacement-nil : holds_replacement [] ≡ false
-unfolding holds_replacement
-holds_replacement-nil = refl
+holds_replacement_character-nil : holds_replacement_character [] ≡ false
+unfolding holds_replacement_character
+holds_replacement_character-nil = refl
 
 -- U+FFFD in front is what the test tells
-starts-from_occurs : (s : List ℕ) → OccursAt s replacement 0 → starts_with nat_eq s replacement ≡ true
+starts-from_occurs : (s : List ℕ) → OccursAt s replacement_character 0
+    → starts_with nat_eq s replacement_character ≡ true
 starts-from_occurs s occurs =
-    (starts_is Decides-eqb s replacement (starts_with nat_eq s replacement) refl).1 (drop 3 s)
-    (front_from_reads 0 s replacement occurs.fits
+    (starts_is Decides-eqb s replacement_character (starts_with nat_eq s replacement_character) refl).1 (drop 3 s)
+    (front_from_reads 0 s replacement_character occurs.fits
     (λ j within. ap (slice_index s) (sym (zero-add j)) ∙ occurs.reads j within))
 
 -- and back
-occurs-from_starts : (s : List ℕ) → starts_with nat_eq s replacement ≡ true → OccursAt s replacement 0
+occurs-from_starts : (s : List ℕ) → starts_with nat_eq s replacement_character ≡ true
+    → OccursAt s replacement_character 0
 occurs-from_starts s starts =
-    let front = (starts_is Decides-eqb s replacement (starts_with nat_eq s replacement) refl).0 starts in
+    let front = (starts_is Decides-eqb s replacement_character (starts_with nat_eq s replacement_character)
+    refl).0 starts in
     record {
-      fits = front_fits s replacement (drop 3 s) front;
-      reads = λ j within. ap (slice_index s) (zero-add j) ∙ front_reads 0 s replacement (drop 3 s) front j within;
+      fits = front_fits s replacement_character (drop 3 s) front;
+      reads = λ j within. ap (slice_index s) (zero-add j)
+          ∙ front_reads 0 s replacement_character (drop 3 s) front j within;
     }
 
 -- one place further
-occurs-cons : (b : ℕ) (s : List ℕ) (k : ℕ) → OccursAt s replacement k → OccursAt (b ∷ s) replacement (suc k)
+occurs-cons : (b : ℕ) (s : List ℕ) (k : ℕ) → OccursAt s replacement_character k
+    → OccursAt (b ∷ s) replacement_character (suc k)
 occurs-cons b s k occurs =
     record { fits = omega (arith, occurs.fits); reads = λ j within. rw (suc-add k j) (occurs.reads j within) }
 
 -- and one place back
-occurs-tail : (b : ℕ) (s : List ℕ) (k : ℕ) → OccursAt (b ∷ s) replacement (suc k) → OccursAt s replacement k
+occurs-tail : (b : ℕ) (s : List ℕ) (k : ℕ) → OccursAt (b ∷ s) replacement_character (suc k)
+    → OccursAt s replacement_character k
 occurs-tail b s k occurs =
     record { fits = omega (arith, occurs.fits); reads = λ j within. rw (suc-add k j) at (occurs.reads j within) }
 
 -- where U+FFFD stands somewhere, the text holds it
-holds-from_occurs : (s : List ℕ) (k : ℕ) → OccursAt s replacement k → holds_replacement s ≡ true
+holds-from_occurs : (s : List ℕ) (k : ℕ) → OccursAt s replacement_character k → holds_replacement_character s ≡ true
 holds-from_occurs [] k occurs = absurd (omega (arith, occurs.fits))
 holds-from_occurs (b ∷ s) zero occurs =
-    holds_replacement-cons b s ∙ or_left _ (holds_replacement s) (starts-from_occurs (b ∷ s) occurs)
+    holds_replacement_character-cons b s ∙ or_left _ (holds_replacement_character s) (starts-from_occurs (b ∷ s) occurs)
 holds-from_occurs (b ∷ s) (suc k) occurs =
-    holds_replacement-cons b s
-    ∙ or_right (starts_with nat_eq (b ∷ s) replacement) _ (holds-from_occurs s k (occurs-tail b s k occurs))
+    holds_replacement_character-cons b s
+    ∙ or_right (starts_with nat_eq (b ∷ s) replacement_character) _ (holds-from_occurs s k (occurs-tail b s k occurs))
 
 -- where the text holds U+FFFD, it stands somewhere
-occurs-from_holds : (s : List ℕ) → holds_replacement s ≡ true → (k : ℕ) × OccursAt s replacement k
-occurs-from_holds [] holds = cc (sym holds_replacement-nil ∙ holds)
+occurs-from_holds : (s : List ℕ) → holds_replacement_character s ≡ true → (k : ℕ) × OccursAt s replacement_character k
+occurs-from_holds [] holds = cc (sym holds_replacement_character-nil ∙ holds)
 occurs-from_holds (b ∷ s) holds =
-    elim (or_cases (starts_with nat_eq (b ∷ s) replacement) (holds_replacement s)
-    (sym (holds_replacement-cons b s) ∙ holds)) [
+    elim (or_cases (starts_with nat_eq (b ∷ s) replacement_character) (holds_replacement_character s)
+    (sym (holds_replacement_character-cons b s) ∙ holds)) [
       | inl here ↦ (0, occurs-from_starts (b ∷ s) here)
       | inr later ↦
           let found = occurs-from_holds s later in
@@ -82,9 +89,10 @@ occurs-from_holds (b ∷ s) holds =
     ]
 
 -- a search for U+FFFD finds it where the text holds it
-pub is_some-FindsNeedle : (s : List ℕ) (r : Option ℕ) → FindsNeedle s replacement 0 r → is_some r ≡ holds_replacement s
+pub is_some-FindsNeedle : (s : List ℕ) (r : Option ℕ) → FindsNeedle s replacement_character 0 r
+    → is_some r ≡ holds_replacement_character s
 is_some-FindsNeedle s None none =
-    sym (false_from_ne_true (holds_replacement s) (λ holds.
+    sym (false_from_ne_true (holds_replacement_character s) (λ holds.
     let found = occurs-from_holds s holds in
     none found.0 (omega arith) (omega (arith, found.1.fits)) found.1))
 is_some-FindsNeedle s (Some k) found = sym (holds-from_occurs s k found.1)
@@ -92,13 +100,13 @@ is_some-FindsNeedle s (Some k) found = sym (holds-from_occurs s k found.1)
 -- both searches
 pub holds_bad_character-first : (s : List ℕ) → list_any (λ b. b == 0) s ≡ true → holds_bad_character s ≡ true
 unfolding holds_bad_character
-holds_bad_character-first s nul = or_left _ (holds_replacement s) nul
+holds_bad_character-first s nul = or_left _ (holds_replacement_character s) nul
 
 -- without NUL the second search decides
 pub holds_bad_character-second : (s : List ℕ) → list_any (λ b. b == 0) s ≡ false
-    → holds_bad_character s ≡ holds_replacement s
+    → holds_bad_character s ≡ holds_replacement_character s
 unfolding holds_bad_character
-holds_bad_character-second s no_nul = ap (λ b. b || holds_replacement s) no_nul
+holds_bad_character-second s no_nul = ap (λ b. b || holds_replacement_character s) no_nul
 
 -- ---- in an escaped name
 
@@ -123,17 +131,17 @@ ends_two (carriage_return ∷ pieces) = refl
 ends_two (itself b other ∷ pieces) = ap (λ t. nat_eq 0xBF b && t) (ends_one pieces)
 
 -- pieces hold U+FFFD where what they stand for does
-holds_replacement-pieces : (pieces : List Piece)
-    → holds_replacement (flat_map spelling pieces) ≡ holds_replacement (map meaning pieces)
-unfolding holds_replacement
-holds_replacement-pieces [] = refl
-holds_replacement-pieces (backslash ∷ pieces) = holds_replacement-pieces pieces
-holds_replacement-pieces (line_feed ∷ pieces) = holds_replacement-pieces pieces
-holds_replacement-pieces (carriage_return ∷ pieces) = holds_replacement-pieces pieces
-holds_replacement-pieces (itself b other ∷ pieces) =
-    ap (λ t. (nat_eq 0xEF b && t) || holds_replacement (flat_map spelling pieces)) (ends_two pieces)
+holds_replacement_character-pieces : (pieces : List Piece)
+    → holds_replacement_character (flat_map spelling pieces) ≡ holds_replacement_character (map meaning pieces)
+unfolding holds_replacement_character
+holds_replacement_character-pieces [] = refl
+holds_replacement_character-pieces (backslash ∷ pieces) = holds_replacement_character-pieces pieces
+holds_replacement_character-pieces (line_feed ∷ pieces) = holds_replacement_character-pieces pieces
+holds_replacement_character-pieces (carriage_return ∷ pieces) = holds_replacement_character-pieces pieces
+holds_replacement_character-pieces (itself b other ∷ pieces) =
+    ap (λ t. (nat_eq 0xEF b && t) || holds_replacement_character (flat_map spelling pieces)) (ends_two pieces)
     ∙ ap (λ t. (nat_eq 0xEF b && pointwise nat_eq (0xBF ∷ 0xBD ∷ []) (take 2 (map meaning pieces))) || t)
-    (holds_replacement-pieces pieces)
+    (holds_replacement_character-pieces pieces)
 
 -- pieces hold NUL where what they stand for does
 holds_nul-pieces : (pieces : List Piece)
@@ -149,8 +157,8 @@ holds_bad_character-pieces : (pieces : List Piece)
     → holds_bad_character (flat_map spelling pieces) ≡ holds_bad_character (map meaning pieces)
 unfolding holds_bad_character
 holds_bad_character-pieces pieces =
-    ap (λ t. t || holds_replacement (flat_map spelling pieces)) (holds_nul-pieces pieces)
-    ∙ ap (λ t. list_any (λ b. b == 0) (map meaning pieces) || t) (holds_replacement-pieces pieces)
+    ap (λ t. t || holds_replacement_character (flat_map spelling pieces)) (holds_nul-pieces pieces)
+    ∙ ap (λ t. list_any (λ b. b == 0) (map meaning pieces) || t) (holds_replacement_character-pieces pieces)
 
 -- a text holds a bad character where the name that it spells does
 pub holds_bad_character-Spells : (text name : List ℕ) → Spells text name
@@ -160,12 +168,12 @@ holds_bad_character-Spells text name spells =
 
 -- no bytes hold no bad character
 pub holds_bad_character-nil : holds_bad_character [] ≡ false
-unfolding holds_bad_character holds_replacement
+unfolding holds_bad_character holds_replacement_character
 holds_bad_character-nil = refl
 
 -- taking escapes back neither hides a bad character nor makes one
-pub holds_bad_character-name_of : (marked : Bool) (spelled : List ℕ) → (marked && has_bad_escape spelled) ≡ false
-    → holds_bad_character (name_of marked spelled) ≡ holds_bad_character spelled
-holds_bad_character-name_of false spelled lawful = refl
-holds_bad_character-name_of true spelled lawful =
-    sym (holds_bad_character-Spells spelled (unescaped spelled) (Spells-from_lawful spelled lawful))
+pub holds_bad_character-name_of : (marked : Bool) (raw_name : List ℕ) → (marked && has_bad_escape raw_name) ≡ false
+    → holds_bad_character (name_of marked raw_name) ≡ holds_bad_character raw_name
+holds_bad_character-name_of false raw_name lawful = refl
+holds_bad_character-name_of true raw_name lawful =
+    sym (holds_bad_character-Spells raw_name (unescaped raw_name) (Spells-from_lawful raw_name lawful))

@@ -7,7 +7,7 @@ use Rattle.std.proofs.lemmas.Bool.{cases_eq, cond-true, cond-false, ne_eqb, eq-e
 use Rattle.std.proofs.lemmas.List.Concat.{flat_map-append}
 use Rattle.memchr.specs.Find.{Nowhere, Passes, is_byte}
 use Rattle.b3_lines.proofs.Searches.{Nowhere-head, Nowhere-tail}
-use Rattle.b3_lines.specs.Names.{Piece, Spells, backslash, carriage_return, ends_escape, escape, escape_meaning, escaped, has_bad_escape, is_escaped, itself, line_feed, meaning, spelling, unescaped}
+use Rattle.b3_lines.specs.Names.{Piece, Spells, backslash, carriage_return, escape, escape_meaning, escaped, has_bad_escape, is_escaped, itself, line_feed, may_follow_backslash, meaning, spelling, unescaped}
 
 -- ---- escaped
 
@@ -99,7 +99,7 @@ unescaped-itself b (c ∷ s) other = cond-false (b == 92) _ _ (ne_eqb b 92 other
 
 -- a `\` and the byte after it
 pub has_bad_escape-backslash : (c : ℕ) (s : List ℕ)
-    → has_bad_escape (92 ∷ c ∷ s) ≡ (not (ends_escape c) || has_bad_escape s)
+    → has_bad_escape (92 ∷ c ∷ s) ≡ (not (may_follow_backslash c) || has_bad_escape s)
 unfolding has_bad_escape
 has_bad_escape-backslash c s = refl
 
@@ -157,7 +157,7 @@ backslash_at s k within is =
 -- a front without `\`, and a `\` with a byte after it
 pub has_bad_escape-first : (s : List ℕ) (k : ℕ) → k + 1 < length s → slice_index s k ≡ 92
     → Nowhere (Passes (is_byte 92) s) 0 k
-    → has_bad_escape s ≡ (not (ends_escape (slice_index s (k + 1))) || has_bad_escape (drop (k + 2) s))
+    → has_bad_escape s ≡ (not (may_follow_backslash (slice_index s (k + 1))) || has_bad_escape (drop (k + 2) s))
 has_bad_escape-first s k within is none =
     has_bad_escape-skip s k (omega arith) none ∙ ap has_bad_escape (backslash_at s k within is)
     ∙ has_bad_escape-backslash (slice_index s (k + 1)) (drop (k + 2) s)
@@ -207,7 +207,7 @@ length-unescaped-first s k within is none =
 
 -- one turn of a loop that counts the escapes
 pub counts-step : (s after : List ℕ) (k : ℕ) → after ≡ drop (k + 2) s → k + 1 < length s → slice_index s k ≡ 92
-    → Nowhere (Passes (is_byte 92) s) 0 k → ends_escape (slice_index s (k + 1)) ≡ true
+    → Nowhere (Passes (is_byte 92) s) 0 k → may_follow_backslash (slice_index s (k + 1)) ≡ true
     → (has_bad_escape s ≡ has_bad_escape after) × (length (unescaped s) ≡ k + 1 + length (unescaped after))
     × (length s ≡ k + 2 + length after)
 counts-step s after k rest within is none ends =
@@ -223,13 +223,14 @@ counts-step s after k rest within is none ends =
 -- a `\` in a text with no bad escape has one of three bytes after it
 pub lawful-first : (s : List ℕ) (k : ℕ) → k < length s → slice_index s k ≡ 92 → Nowhere (Passes (is_byte 92) s) 0 k
     → has_bad_escape s ≡ false
-    → (k + 1 < length s) × (ends_escape (slice_index s (k + 1)) ≡ true) × (has_bad_escape (drop (k + 2) s) ≡ false)
+    → (k + 1 < length s) × (may_follow_backslash (slice_index s (k + 1)) ≡ true)
+    × (has_bad_escape (drop (k + 2) s) ≡ false)
 lawful-first s k here is none lawful =
     elim (cases_eq (k + 1) (length s)) [
       | inl last ↦ cc (sym lawful ∙ has_bad_escape-at_end s k last is none)
       | inr more ↦
           let within : k + 1 < length s = omega arith in
-          let parts = or_parts (not (ends_escape (slice_index s (k + 1)))) _
+          let parts = or_parts (not (may_follow_backslash (slice_index s (k + 1)))) _
           (sym (has_bad_escape-first s k within is none) ∙ lawful) in
           (within, not-false _ parts.0, parts.1)
     ]
@@ -241,8 +242,8 @@ escape_meaning-ascii c =
     (λ _. cond_both (c == 114) 13 92 (λ x. x < 128) (λ _. omega arith) (λ _. omega arith))
 
 -- and so is what may stand after a `\`
-pub ends_escape-ascii : (c : ℕ) → ends_escape c ≡ true → c < 128
-ends_escape-ascii c ends =
+pub may_follow_backslash-ascii : (c : ℕ) → may_follow_backslash c ≡ true → c < 128
+may_follow_backslash-ascii c ends =
     elim (or_cases (c == 92 || c == 110) (c == 114) ends) [
       | inl early ↦
           elim (or_cases (c == 92) (c == 110) early) [
@@ -304,7 +305,7 @@ Spells-cons piece text name spells =
     (piece ∷ spells.0, ap (λ t. spelling piece ++ t) spells.1, ap (λ t. meaning piece ∷ t) spells.2)
 
 -- the last of the three bytes
-ends_last : (c : ℕ) → ends_escape c ≡ true → c ≢ 92 → c ≢ 110 → c ≡ 114
+ends_last : (c : ℕ) → may_follow_backslash c ≡ true → c ≢ 92 → c ≢ 110 → c ≡ 114
 ends_last c ends not_backslash not_feed =
     elim (or_cases (c == 92 || c == 110) (c == 114) ends) [
       | inl early ↦
@@ -316,7 +317,7 @@ ends_last c ends not_backslash not_feed =
     ]
 
 -- the piece of a `\` and a byte that may follow it
-escape_piece : (c : ℕ) → ends_escape c ≡ true
+escape_piece : (c : ℕ) → may_follow_backslash c ≡ true
     → (piece : Piece) × (spelling piece ≡ 92 ∷ c ∷ []) × (meaning piece ≡ escape_meaning c)
 escape_piece c ends =
     elim (cases_eq c 92) [
@@ -342,7 +343,7 @@ Spells-from_lawful (b ∷ []) lawful =
 Spells-from_lawful (b ∷ c ∷ text) lawful =
     elim (cases_eq b 92) [
       | inl is ↦
-          let parts = or_parts (not (ends_escape c)) (has_bad_escape text)
+          let parts = or_parts (not (may_follow_backslash c)) (has_bad_escape text)
           (sym (has_bad_escape-backslash c text) ∙ ap (λ x. has_bad_escape (x ∷ c ∷ text)) (sym is) ∙ lawful) in
           let piece = escape_piece c (not-false _ parts.0) in
           let whole = Spells-cons piece.0 text (unescaped text) (Spells-from_lawful text parts.1) in

@@ -9,25 +9,25 @@ use Rattle.std.proofs.lemmas.Str.{IsCharBoundary-after_ascii, IsCharBoundary-bef
 use Rattle.hex.specs.Hex.{is_hex_digit}
 use Rattle.hex.proofs.HexLemmas.{decode_of-ok}
 use Rattle.b3_lines.specs.Reading.{AreDigits, Layout, is_tagged, layout_of, plain_layout, tagged_layout}
-use Rattle.b3_lines.specs.Writing.{closing, spaces, tag}
+use Rattle.b3_lines.specs.Writing.{spaces, tag_prefix, tag_separator}
 use Rattle.b3_lines.proofs.DigitsAndSpaces.{cut-digits, cut-name, cut-rest, join-spaced}
 
 -- parts lie so that none is missing, and these are the digits and the name as it stands
-pub record LiesAs (layout : Layout) (digits spelled : List ℕ) : Type 0 where
+pub record LiesAs (layout : Layout) (digits raw_name : List ℕ) : Type 0 where
   pub long : layout.is_short ≡ false
   pub digits_are : layout.digits ≡ digits
-  pub parted : layout.is_parted ≡ true
-  pub spelled_is : layout.spelled ≡ spelled
+  pub parted : layout.has_separator ≡ true
+  pub spelled_is : layout.raw_name ≡ raw_name
 
 -- ---- which form is read
 
 -- what begins with `BLAKE3 (` is it and what follows
-pub is_tagged-append : (rest : List ℕ) → is_tagged rest ≡ true → rest ≡ tag ++ drop 8 rest
-is_tagged-append rest tagged = (starts_is Decides-eqb rest tag (is_tagged rest) refl).0 tagged
+pub is_tagged-append : (rest : List ℕ) → is_tagged rest ≡ true → rest ≡ tag_prefix ++ drop 8 rest
+is_tagged-append rest tagged = (starts_is Decides-eqb rest tag_prefix (is_tagged rest) refl).0 tagged
 
 -- and is read as tagged
-pub is_tagged-tag : (rest behind : List ℕ) → rest ≡ tag ++ behind → is_tagged rest ≡ true
-is_tagged-tag rest behind whole = (starts_is Decides-eqb rest tag (is_tagged rest) refl).1 behind whole
+pub is_tagged-tag_prefix : (rest behind : List ℕ) → rest ≡ tag_prefix ++ behind → is_tagged rest ≡ true
+is_tagged-tag_prefix rest behind whole = (starts_is Decides-eqb rest tag_prefix (is_tagged rest) refl).1 behind whole
 
 -- digits do not begin with `BLAKE3 (`, as `L` is no digit
 pub is_tagged-digits : (digits digest behind : List ℕ) → AreDigits digits digest → is_tagged (digits ++ behind) ≡ false
@@ -51,99 +51,104 @@ layout_of-tagged rest tagged = cond-true (is_tagged rest) (tagged_layout rest) (
 -- ---- plain
 
 -- digits, two spaces and a name
-pub LiesAs-plain : (rest digits digest spelled : List ℕ) → AreDigits digits digest → rest ≡ digits ++ spaces ++ spelled
-    → LiesAs (layout_of rest) digits spelled
-LiesAs-plain rest digits digest spelled are whole =
-    let untagged : is_tagged rest ≡ false = ap is_tagged (whole ∙ append_assoc digits spaces spelled)
-    ∙ is_tagged-digits digits digest (spaces ++ spelled) are in
+pub LiesAs-plain : (rest digits digest raw_name : List ℕ) → AreDigits digits digest
+    → rest ≡ digits ++ spaces ++ raw_name
+    → LiesAs (layout_of rest) digits raw_name
+LiesAs-plain rest digits digest raw_name are whole =
+    let untagged : is_tagged rest ≡ false = ap is_tagged (whole ∙ append_assoc digits spaces raw_name)
+    ∙ is_tagged-digits digits digest (spaces ++ raw_name) are in
     let count = are.count in
     let two : take 2 (drop 64 rest) ≡ spaces =
-    ap (λ t. take 2 (drop 64 t)) whole ∙ ap (take 2) (cut-rest digits spelled count) in
+    ap (λ t. take 2 (drop 64 t)) whole ∙ ap (take 2) (cut-rest digits raw_name count) in
     let whole_length = ap length whole in
-    let parts = length-append (digits ++ spaces) spelled in
+    let parts = length-append (digits ++ spaces) raw_name in
     let front = length-append digits spaces in
-    subst (λ (layout : Layout). LiesAs layout digits spelled) (sym (layout_of-plain rest untagged)) (record {
+    subst (λ (layout : Layout). LiesAs layout digits raw_name) (sym (layout_of-plain rest untagged)) (record {
       long = le-ltb (length rest) 66 (omega (arith, whole_length, parts, front, count));
-      digits_are = ap (take 64) whole ∙ cut-digits digits spelled count;
+      digits_are = ap (take 64) whole ∙ cut-digits digits raw_name count;
       parted = (bytes_eq-Decides (take 2 (drop 64 rest)) spaces).1 two;
-      spelled_is = ap (drop 66) whole ∙ cut-name digits spelled count;
+      spelled_is = ap (drop 66) whole ∙ cut-name digits raw_name count;
     })
 
 -- ---- tagged
 
 -- the parts of a tagged line, cut up
-module _ (rest digits spelled : List ℕ) (whole : rest ≡ tag ++ spelled ++ closing ++ digits)
+module _ (rest digits raw_name : List ℕ) (whole : rest ≡ tag_prefix ++ raw_name ++ tag_separator ++ digits)
     (count : length digits ≡ 64) where
   -- how long it is
-  length-tagged : length rest ≡ length spelled + 76
+  length-tagged : length rest ≡ length raw_name + 76
   length-tagged =
-      let all = length-append (tag ++ spelled ++ closing) digits in
-      let front = length-append (tag ++ spelled) closing in
-      let named = length-append tag spelled in
+      let all = length-append (tag_prefix ++ raw_name ++ tag_separator) digits in
+      let front = length-append (tag_prefix ++ raw_name) tag_separator in
+      let named = length-append tag_prefix raw_name in
       omega (arith, ap length whole, all, front, named, count)
 
   -- the digits are at its end
   drop-tagged_digits : drop (length rest - 64) rest ≡ digits
   drop-tagged_digits =
-      let front = length-append (tag ++ spelled) closing in
-      let named = length-append tag spelled in
+      let front = length-append (tag_prefix ++ raw_name) tag_separator in
+      let named = length-append tag_prefix raw_name in
       ap (drop (length rest - 64)) whole
-      ∙ drop_at (tag ++ spelled ++ closing) digits (length rest - 64) (omega (arith, length-tagged, front, named))
+      ∙ drop_at (tag_prefix ++ raw_name ++ tag_separator) digits (length rest - 64)
+      (omega (arith, length-tagged, front, named))
 
   -- `) = ` stands in front of them
-  take-tagged_closing : take 4 (drop (length rest - 64 - 4) rest) ≡ closing
+  take-tagged_closing : take 4 (drop (length rest - 64 - 4) rest) ≡ tag_separator
   take-tagged_closing =
-      let named = length-append tag spelled in
-      ap (λ t. take 4 (drop (length rest - 64 - 4) t)) (whole ∙ append_assoc (tag ++ spelled) closing digits)
-      ∙ ap (take 4) (drop_at (tag ++ spelled) (closing ++ digits) (length rest - 64 - 4)
+      let named = length-append tag_prefix raw_name in
+      ap (λ t. take 4 (drop (length rest - 64 - 4) t))
+      (whole ∙ append_assoc (tag_prefix ++ raw_name) tag_separator digits)
+      ∙ ap (take 4) (drop_at (tag_prefix ++ raw_name) (tag_separator ++ digits) (length rest - 64 - 4)
       (omega (arith, length-tagged, named)))
-      ∙ take_at closing digits 4 refl
+      ∙ take_at tag_separator digits 4 refl
 
   -- and the name in front of that
-  take-tagged_name : take (length rest - 64 - 12) (drop 8 rest) ≡ spelled
+  take-tagged_name : take (length rest - 64 - 12) (drop 8 rest) ≡ raw_name
   take-tagged_name =
-      let parts : rest ≡ tag ++ (spelled ++ (closing ++ digits)) =
-      whole ∙ append_assoc (tag ++ spelled) closing digits ∙ append_assoc tag spelled (closing ++ digits) in
+      let parts : rest ≡ tag_prefix ++ (raw_name ++ (tag_separator ++ digits)) =
+      whole ∙ append_assoc (tag_prefix ++ raw_name) tag_separator digits
+      ∙ append_assoc tag_prefix raw_name (tag_separator ++ digits) in
       ap (λ t. take (length rest - 64 - 12) (drop 8 t)) parts
-      ∙ ap (take (length rest - 64 - 12)) (drop_at tag (spelled ++ (closing ++ digits)) 8 refl)
-      ∙ take_at spelled (closing ++ digits) (length rest - 64 - 12) (omega (arith, length-tagged))
+      ∙ ap (take (length rest - 64 - 12)) (drop_at tag_prefix (raw_name ++ (tag_separator ++ digits)) 8 refl)
+      ∙ take_at raw_name (tag_separator ++ digits) (length rest - 64 - 12) (omega (arith, length-tagged))
 
   -- so they lie
-  pub LiesAs-tagged : LiesAs (layout_of rest) digits spelled
+  pub LiesAs-tagged : LiesAs (layout_of rest) digits raw_name
   LiesAs-tagged =
-      let parts : rest ≡ tag ++ (spelled ++ (closing ++ digits)) =
-      whole ∙ append_assoc (tag ++ spelled) closing digits ∙ append_assoc tag spelled (closing ++ digits) in
-      let tagged = is_tagged-tag rest (spelled ++ (closing ++ digits)) parts in
-      subst (λ (layout : Layout). LiesAs layout digits spelled) (sym (layout_of-tagged rest tagged)) (record {
+      let parts : rest ≡ tag_prefix ++ (raw_name ++ (tag_separator ++ digits)) =
+      whole ∙ append_assoc (tag_prefix ++ raw_name) tag_separator digits
+      ∙ append_assoc tag_prefix raw_name (tag_separator ++ digits) in
+      let tagged = is_tagged-tag_prefix rest (raw_name ++ (tag_separator ++ digits)) parts in
+      subst (λ (layout : Layout). LiesAs layout digits raw_name) (sym (layout_of-tagged rest tagged)) (record {
         long = le-ltb (length rest) 76 (omega (arith, length-tagged));
         digits_are = drop-tagged_digits;
-        parted = (bytes_eq-Decides (take 4 (drop (length rest - 64 - 4) rest)) closing).1 take-tagged_closing;
+        parted = (bytes_eq-Decides (take 4 (drop (length rest - 64 - 4) rest)) tag_separator).1 take-tagged_closing;
         spelled_is = take-tagged_name;
       })
 
 -- what is long enough, and has `BLAKE3 (` in front and `) = ` before its last 64 bytes, is put together of its parts
 pub join-tagged : (rest : List ℕ) → is_tagged rest ≡ true → 76 ≤ length rest
-    → bytes_eq (take 4 (drop (length rest - 64 - 4) rest)) closing ≡ true
-    → rest ≡ tag ++ take (length rest - 64 - 12) (drop 8 rest) ++ closing ++ drop (length rest - 64) rest
+    → bytes_eq (take 4 (drop (length rest - 64 - 4) rest)) tag_separator ≡ true
+    → rest ≡ tag_prefix ++ take (length rest - 64 - 12) (drop 8 rest) ++ tag_separator ++ drop (length rest - 64) rest
 join-tagged rest tagged long parted =
     let start = length rest - 64 in
     let behind = drop 8 rest in
     let name = take (start - 12) behind in
-    let four = (bytes_eq-Decides (take 4 (drop (start - 4) rest)) closing).0 parted in
+    let four = (bytes_eq-Decides (take 4 (drop (start - 4) rest)) tag_separator).0 parted in
     let to_closing : 8 + (start - 12) ≡ start - 4 = omega (arith, long) in
     let to_digits : start - 4 + 4 ≡ start = omega (arith, long) in
     let closed : drop (start - 12) behind ≡ drop (start - 4) rest =
     drop-drop (start - 12) 8 rest ∙ ap (λ n. drop n rest) to_closing in
-    let ended : drop 4 (drop (start - 4) rest) ≡ drop start rest =
+    let terminated : drop 4 (drop (start - 4) rest) ≡ drop start rest =
     drop-drop 4 (start - 4) rest ∙ ap (λ n. drop n rest) to_digits in
-    let tail : drop (start - 4) rest ≡ closing ++ drop start rest =
+    let tail : drop (start - 4) rest ≡ tag_separator ++ drop start rest =
     sym (take-append-drop 4 (drop (start - 4) rest)) ∙ ap (λ t. t ++ drop 4 (drop (start - 4) rest)) four
-    ∙ ap (λ t. closing ++ t) ended in
-    let inner : behind ≡ name ++ (closing ++ drop start rest) =
+    ∙ ap (λ t. tag_separator ++ t) terminated in
+    let inner : behind ≡ name ++ (tag_separator ++ drop start rest) =
     sym (take-append-drop (start - 12) behind) ∙ ap (λ t. name ++ t) (closed ∙ tail) in
-    is_tagged-append rest tagged ∙ ap (λ t. tag ++ t) inner
-    ∙ sym (append_assoc tag name (closing ++ drop start rest))
-    ∙ sym (append_assoc (tag ++ name) closing (drop start rest))
+    is_tagged-append rest tagged ∙ ap (λ t. tag_prefix ++ t) inner
+    ∙ sym (append_assoc tag_prefix name (tag_separator ++ drop start rest))
+    ∙ sym (append_assoc (tag_prefix ++ name) tag_separator (drop start rest))
 
 -- ---- of either form
 
@@ -163,39 +168,39 @@ length-layout_digits rest long =
     ]
 
 -- a plain line is put together of its parts
-pub joined-plain : (rest : List ℕ) → is_tagged rest ≡ false → (layout_of rest).is_parted ≡ true
-    → rest ≡ (layout_of rest).digits ++ spaces ++ (layout_of rest).spelled
+pub joined-plain : (rest : List ℕ) → is_tagged rest ≡ false → (layout_of rest).has_separator ≡ true
+    → rest ≡ (layout_of rest).digits ++ spaces ++ (layout_of rest).raw_name
 joined-plain rest untagged parted =
     let is = layout_of-plain rest untagged in
-    join-spaced rest (sym (ap (λ (l : Layout). l.is_parted) is) ∙ parted)
-    ∙ ap (λ (l : Layout). l.digits ++ spaces ++ l.spelled) (sym is)
+    join-spaced rest (sym (ap (λ (l : Layout). l.has_separator) is) ∙ parted)
+    ∙ ap (λ (l : Layout). l.digits ++ spaces ++ l.raw_name) (sym is)
 
 -- so is a tagged one
 pub joined-tagged : (rest : List ℕ) → is_tagged rest ≡ true → (layout_of rest).is_short ≡ false
-    → (layout_of rest).is_parted ≡ true
-    → rest ≡ tag ++ (layout_of rest).spelled ++ closing ++ (layout_of rest).digits
+    → (layout_of rest).has_separator ≡ true
+    → rest ≡ tag_prefix ++ (layout_of rest).raw_name ++ tag_separator ++ (layout_of rest).digits
 joined-tagged rest tagged long parted =
     let is = layout_of-tagged rest tagged in
     let enough = ltb-false (length rest) 76 (sym (ap (λ (l : Layout). l.is_short) is) ∙ long) in
-    join-tagged rest tagged enough (sym (ap (λ (l : Layout). l.is_parted) is) ∙ parted)
-    ∙ ap (λ (l : Layout). tag ++ l.spelled ++ closing ++ l.digits) (sym is)
+    join-tagged rest tagged enough (sym (ap (λ (l : Layout). l.has_separator) is) ∙ parted)
+    ∙ ap (λ (l : Layout). tag_prefix ++ l.raw_name ++ tag_separator ++ l.digits) (sym is)
 
 -- ---- where a text may be cut
 
 -- a text may be cut after `BLAKE3 (`
-pub IsCharBoundary-tag : (rest : List ℕ) → IsUtf8 rest → 76 ≤ length rest → is_tagged rest ≡ true
+pub IsCharBoundary-tag_prefix : (rest : List ℕ) → IsUtf8 rest → 76 ≤ length rest → is_tagged rest ≡ true
     → IsCharBoundary rest 8
-IsCharBoundary-tag rest utf8 long tagged =
+IsCharBoundary-tag_prefix rest utf8 long tagged =
     let last : slice_index rest 7 ≡ 40 = ap (λ t. slice_index t 7) (is_tagged-append rest tagged) in
     IsCharBoundary-after_ascii rest 7 utf8 (omega (arith, long)) (omega (arith, last))
 
 -- and in front of `) = `
-pub IsCharBoundary-closing : (rest : List ℕ) → 76 ≤ length rest
-    → bytes_eq (take 4 (drop (length rest - 64 - 4) rest)) closing ≡ true
+pub IsCharBoundary-tag_separator : (rest : List ℕ) → 76 ≤ length rest
+    → bytes_eq (take 4 (drop (length rest - 64 - 4) rest)) tag_separator ≡ true
     → IsCharBoundary rest (length rest - 64 - 4)
-IsCharBoundary-closing rest long parted =
+IsCharBoundary-tag_separator rest long parted =
     let at = length rest - 64 - 4 in
-    let four = (bytes_eq-Decides (take 4 (drop at rest)) closing).0 parted in
+    let four = (bytes_eq-Decides (take 4 (drop at rest)) tag_separator).0 parted in
     let none : at ≡ at + 0 = omega arith in
     let first : slice_index rest at ≡ 41 =
     ap (slice_index rest) none

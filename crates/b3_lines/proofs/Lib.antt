@@ -19,8 +19,8 @@ pub mod OneForm
 pub mod ReadBack
 -- what the answer of a call says where it is `Ok`
 pub mod Results
--- the lines of a text, and their places
+-- the lines of a text, and their ranges
 pub mod LinesOf
-pub mod PlacesFrom
+pub mod RangesFrom
 -- a line that was written is one line
 pub mod OneLine

@@ -5,7 +5,7 @@ use Rattle.std.specs.Prelude.{All, slice_index_or}
 use Rattle.std.proofs.lemmas.Bool.{cases_eq, cond-false, eqb-true, ne_eqb}
 use Rattle.std.proofs.lemmas.List.Elements.{All-cons, All-head, All-nil, All-tail}
 use Rattle.memchr.specs.Find.{IsFirstByte, Nowhere, Passes, is_byte}
-use Rattle.b3_lines.specs.Lines.{AreLines, EndsOpen, HasNoFeed, ended, lines_of, prepended}
+use Rattle.b3_lines.specs.Lines.{AreLines, EndsUnterminated, HasNoLineFeed, lines_of, prepended, terminated}
 use Rattle.b3_lines.proofs.Searches.{Nowhere-head, Nowhere-tail}
 
 -- ---- by the first byte
@@ -59,22 +59,22 @@ lines_of-found text (Some at) filled found n is =
 
 -- ---- pieces without line feed
 
-HasNoFeed-cons_at : (b : ℕ) (s : List ℕ) → b ≢ 10 → HasNoFeed s → (k : ℕ) → k < length (b ∷ s)
+HasNoLineFeed-cons_at : (b : ℕ) (s : List ℕ) → b ≢ 10 → HasNoLineFeed s → (k : ℕ) → k < length (b ∷ s)
     → slice_index_or (b ∷ s) k 10 ≡ 10 → ⊥
-HasNoFeed-cons_at b s other none zero below is = other is
-HasNoFeed-cons_at b s other none (suc k) below is = none (k, omega arith, is)
+HasNoLineFeed-cons_at b s other none zero below is = other is
+HasNoLineFeed-cons_at b s other none (suc k) below is = none (k, omega arith, is)
 
-HasNoFeed-nil : HasNoFeed []
-HasNoFeed-nil found = let below = found.1 in absurd (omega arith)
+HasNoLineFeed-nil : HasNoLineFeed []
+HasNoLineFeed-nil found = let below = found.1 in absurd (omega arith)
 
-HasNoFeed-cons : (b : ℕ) (s : List ℕ) → b ≢ 10 → HasNoFeed s → HasNoFeed (b ∷ s)
-HasNoFeed-cons b s other none found = HasNoFeed-cons_at b s other none found.0 found.1 found.2
+HasNoLineFeed-cons : (b : ℕ) (s : List ℕ) → b ≢ 10 → HasNoLineFeed s → HasNoLineFeed (b ∷ s)
+HasNoLineFeed-cons b s other none found = HasNoLineFeed-cons_at b s other none found.0 found.1 found.2
 
-HasNoFeed-head : (b : ℕ) (s : List ℕ) → HasNoFeed (b ∷ s) → b ≢ 10
-HasNoFeed-head b s none is = none (0, omega arith, is)
+HasNoLineFeed-head : (b : ℕ) (s : List ℕ) → HasNoLineFeed (b ∷ s) → b ≢ 10
+HasNoLineFeed-head b s none is = none (0, omega arith, is)
 
-HasNoFeed-tail : (b : ℕ) (s : List ℕ) → HasNoFeed (b ∷ s) → HasNoFeed s
-HasNoFeed-tail b s none found = let below = found.1 in none (suc found.0, omega arith, found.2)
+HasNoLineFeed-tail : (b : ℕ) (s : List ℕ) → HasNoLineFeed (b ∷ s) → HasNoLineFeed s
+HasNoLineFeed-tail b s none found = let below = found.1 in none (suc found.0, omega arith, found.2)
 
 -- ---- a fact on each piece of two parts
 
@@ -90,62 +90,63 @@ All-behind P (x ∷ xs) ys all = All-behind P xs ys (All-tail P x (xs ++ ys) all
 -- ---- what is the lines of a text is `lines_of` it
 
 -- a line in front of a line feed
-pub lines_of-line : (line text : List ℕ) → HasNoFeed line → lines_of (line ++ 10 ∷ text) ≡ line ∷ lines_of text
+pub lines_of-line : (line text : List ℕ) → HasNoLineFeed line → lines_of (line ++ 10 ∷ text) ≡ line ∷ lines_of text
 lines_of-line [] text none = lines_of-feed text
 lines_of-line (b ∷ line) text none =
-    lines_of-cons b (line ++ 10 ∷ text) (ne_eqb b 10 (HasNoFeed-head b line none))
-    ∙ ap (prepended b) (lines_of-line line text (HasNoFeed-tail b line none))
+    lines_of-cons b (line ++ 10 ∷ text) (ne_eqb b 10 (HasNoLineFeed-head b line none))
+    ∙ ap (prepended b) (lines_of-line line text (HasNoLineFeed-tail b line none))
 
 -- a last line without one
-lines_of-last : (b : ℕ) (line : List ℕ) → HasNoFeed (b ∷ line) → lines_of (b ∷ line) ≡ (b ∷ line) ∷ []
+lines_of-last : (b : ℕ) (line : List ℕ) → HasNoLineFeed (b ∷ line) → lines_of (b ∷ line) ≡ (b ∷ line) ∷ []
 lines_of-last b [] none =
-    lines_of-cons b [] (ne_eqb b 10 (HasNoFeed-head b [] none)) ∙ ap (prepended b) lines_of-nil
+    lines_of-cons b [] (ne_eqb b 10 (HasNoLineFeed-head b [] none)) ∙ ap (prepended b) lines_of-nil
 lines_of-last b (c ∷ line) none =
-    lines_of-cons b (c ∷ line) (ne_eqb b 10 (HasNoFeed-head b (c ∷ line) none))
-    ∙ ap (prepended b) (lines_of-last c line (HasNoFeed-tail b (c ∷ line) none))
+    lines_of-cons b (c ∷ line) (ne_eqb b 10 (HasNoLineFeed-head b (c ∷ line) none))
+    ∙ ap (prepended b) (lines_of-last c line (HasNoLineFeed-tail b (c ∷ line) none))
 
 -- lines that are ended, in front of a text
-lines_of-ended : (lines : List (List ℕ)) (text : List ℕ) → All HasNoFeed lines
-    → lines_of (ended lines ++ text) ≡ lines ++ lines_of text
-lines_of-ended [] text none = refl
-lines_of-ended (line ∷ lines) text none =
-    let shape : ended (line ∷ lines) ++ text ≡ line ++ 10 ∷ (ended lines ++ text) = simp append_assoc in
+lines_of-terminated : (lines : List (List ℕ)) (text : List ℕ) → All HasNoLineFeed lines
+    → lines_of (terminated lines ++ text) ≡ lines ++ lines_of text
+lines_of-terminated [] text none = refl
+lines_of-terminated (line ∷ lines) text none =
+    let shape : terminated (line ∷ lines) ++ text ≡ line ++ 10 ∷ (terminated lines ++ text) = simp append_assoc in
     ap lines_of shape
-    ∙ lines_of-line line (ended lines ++ text) (All-head HasNoFeed line lines none)
-    ∙ ap (λ rest. line ∷ rest) (lines_of-ended lines text (All-tail HasNoFeed line lines none))
+    ∙ lines_of-line line (terminated lines ++ text) (All-head HasNoLineFeed line lines none)
+    ∙ ap (λ rest. line ∷ rest) (lines_of-terminated lines text (All-tail HasNoLineFeed line lines none))
 
 -- a last line that nothing ends
-lines_of-open : (text : List ℕ) (pieces : List (List ℕ)) → All HasNoFeed pieces
+lines_of-open : (text : List ℕ) (pieces : List (List ℕ)) → All HasNoLineFeed pieces
     → (before : List (List ℕ)) (last : List ℕ)
-    → pieces ≡ before ++ last ∷ [] → last ≢ [] → text ≡ ended before ++ last → pieces ≡ lines_of text
+    → pieces ≡ before ++ last ∷ [] → last ≢ [] → text ≡ terminated before ++ last → pieces ≡ lines_of text
 lines_of-open text pieces none before [] pieces_are is_some text_is = absurd (is_some refl)
 lines_of-open text pieces none before (b ∷ last) pieces_are is_some text_is =
-    let all = subst (All HasNoFeed) pieces_are none in
-    let front = All-front HasNoFeed before ((b ∷ last) ∷ []) all in
-    let end = All-head HasNoFeed (b ∷ last) [] (All-behind HasNoFeed before ((b ∷ last) ∷ []) all) in
-    pieces_are ∙ sym (ap lines_of text_is ∙ lines_of-ended before (b ∷ last) front
+    let all = subst (All HasNoLineFeed) pieces_are none in
+    let front = All-front HasNoLineFeed before ((b ∷ last) ∷ []) all in
+    let end = All-head HasNoLineFeed (b ∷ last) [] (All-behind HasNoLineFeed before ((b ∷ last) ∷ []) all) in
+    pieces_are ∙ sym (ap lines_of text_is ∙ lines_of-terminated before (b ∷ last) front
     ∙ ap (λ rest. before ++ rest) (lines_of-last b last end))
 
 -- nothing else is the lines of a text
 pub lines_of-only : (text : List ℕ) (pieces : List (List ℕ)) → AreLines text pieces → pieces ≡ lines_of text
 lines_of-only text pieces are = elim are.give [
   | inl text_is ↦
-      sym (ap lines_of (text_is ∙ sym (append-nil (ended pieces))) ∙ lines_of-ended pieces [] are.without_feed
+      sym (ap lines_of (text_is ∙ sym (append-nil (terminated pieces)))
+      ∙ lines_of-terminated pieces [] are.without_line_feed
       ∙ ap (λ rest. pieces ++ rest) lines_of-nil ∙ append-nil pieces)
   | inr unended ↦
-      lines_of-open text pieces are.without_feed unended.before unended.last unended.pieces_are unended.is_some
+      lines_of-open text pieces are.without_line_feed unended.before unended.last unended.pieces_are unended.is_some
       unended.text_is
 ]
 
 -- ---- and `lines_of` a text is its lines
 
 AreLines-nil : AreLines [] []
-AreLines-nil = record { without_feed = All-nil HasNoFeed; give = inl refl }
+AreLines-nil = record { without_line_feed = All-nil HasNoLineFeed; give = inl refl }
 
 -- a line feed in front
 AreLines-feed : (text : List ℕ) (pieces : List (List ℕ)) → AreLines text pieces → AreLines (10 ∷ text) ([] ∷ pieces)
 AreLines-feed text pieces are = record {
-  without_feed = All-cons HasNoFeed [] pieces HasNoFeed-nil are.without_feed;
+  without_line_feed = All-cons HasNoLineFeed [] pieces HasNoLineFeed-nil are.without_line_feed;
   give = elim are.give [
     | inl text_is ↦ inl (ap (λ t. 10 ∷ t) text_is)
     | inr unended ↦ inr (record {
@@ -159,10 +160,10 @@ AreLines-feed text pieces are = record {
 }
 
 -- another byte in front of a first line that nothing ends
-EndsOpen-cons : (b : ℕ) (text line : List ℕ) (lines before : List (List ℕ)) (last : List ℕ)
-    → line ∷ lines ≡ before ++ last ∷ [] → last ≢ [] → text ≡ ended before ++ last
-    → EndsOpen (b ∷ text) ((b ∷ line) ∷ lines)
-EndsOpen-cons b text line lines [] last pieces_are is_some text_is =
+EndsUnterminated-cons : (b : ℕ) (text line : List ℕ) (lines before : List (List ℕ)) (last : List ℕ)
+    → line ∷ lines ≡ before ++ last ∷ [] → last ≢ [] → text ≡ terminated before ++ last
+    → EndsUnterminated (b ∷ text) ((b ∷ line) ∷ lines)
+EndsUnterminated-cons b text line lines [] last pieces_are is_some text_is =
     let line_is : line ≡ last = cc in
     let none : lines ≡ [] = cc in
     record {
@@ -172,7 +173,7 @@ EndsOpen-cons b text line lines [] last pieces_are is_some text_is =
       is_some = λ is. cc is;
       text_is = ap (λ t. b ∷ t) (text_is ∙ sym line_is);
     }
-EndsOpen-cons b text line lines (first ∷ before) last pieces_are is_some text_is =
+EndsUnterminated-cons b text line lines (first ∷ before) last pieces_are is_some text_is =
     let line_is : line ≡ first = cc in
     let rest_is : lines ≡ before ++ last ∷ [] = cc in
     record {
@@ -180,7 +181,7 @@ EndsOpen-cons b text line lines (first ∷ before) last pieces_are is_some text_
       last = last;
       pieces_are = ap (λ rest. (b ∷ line) ∷ rest) rest_is;
       is_some = is_some;
-      text_is = ap (λ t. b ∷ t) (text_is ∙ ap (λ l. ended (l ∷ before) ++ last) (sym line_is));
+      text_is = ap (λ t. b ∷ t) (text_is ∙ ap (λ l. terminated (l ∷ before) ++ last) (sym line_is));
     }
 
 -- another byte in front
@@ -193,7 +194,8 @@ AreLines-cons b text [] other are =
           (omega (arith, ap length unended.pieces_are, length-append unended.before (unended.last ∷ [])))
     ] in
     record {
-      without_feed = All-cons HasNoFeed (b ∷ []) [] (HasNoFeed-cons b [] other HasNoFeed-nil) (All-nil HasNoFeed);
+      without_line_feed = All-cons HasNoLineFeed (b ∷ []) [] (HasNoLineFeed-cons b [] other HasNoLineFeed-nil)
+          (All-nil HasNoLineFeed);
       give = inr (record {
         before = [];
         last = b ∷ [];
@@ -203,13 +205,14 @@ AreLines-cons b text [] other are =
       });
     }
 AreLines-cons b text (line ∷ lines) other are = record {
-  without_feed = All-cons HasNoFeed (b ∷ line) lines
-      (HasNoFeed-cons b line other (All-head HasNoFeed line lines are.without_feed))
-      (All-tail HasNoFeed line lines are.without_feed);
+  without_line_feed = All-cons HasNoLineFeed (b ∷ line) lines
+      (HasNoLineFeed-cons b line other (All-head HasNoLineFeed line lines are.without_line_feed))
+      (All-tail HasNoLineFeed line lines are.without_line_feed);
   give = elim are.give [
     | inl text_is ↦ inl (ap (λ t. b ∷ t) text_is)
     | inr unended ↦ inr
-        (EndsOpen-cons b text line lines unended.before unended.last unended.pieces_are unended.is_some unended.text_is)
+        (EndsUnterminated-cons b text line lines unended.before unended.last unended.pieces_are unended.is_some
+        unended.text_is)
   ];
 }
 

@@ -5,9 +5,9 @@ use Rattle.std.proofs.lemmas.Bool.{both_ways, cases_eq, cases_lt, cond_both, fal
 use Rattle.std.proofs.lemmas.List.{get_or_past}
 use Rattle.std.proofs.lemmas.List.Folds.{list_any-append, list_any_at}
 use Rattle.hex.specs.Hex.{encode_lower, encode_with, lower_digits}
-use Rattle.b3_lines.specs.Lines.{HasNoFeed, lines_of}
+use Rattle.b3_lines.specs.Lines.{HasNoLineFeed, lines_of}
 use Rattle.b3_lines.specs.Names.{escape, escaped, is_escaped}
-use Rattle.b3_lines.specs.Writing.{closing, is_marked, mark, plain_text, spaces, tag, tagged_text}
+use Rattle.b3_lines.specs.Writing.{is_marked, mark, plain_text, spaces, tag_prefix, tag_separator, tagged_text}
 use Rattle.b3_lines.proofs.Escapes.{escape-itself, escaped-cons, escaped-nil}
 use Rattle.b3_lines.proofs.LinesOf.{lines_of-line, lines_of-nil}
 
@@ -63,30 +63,30 @@ has_feed-encode_lower (b ∷ bytes) =
     or_from _ _ (is_feed-digit (b / 16)) (or_from _ _ (is_feed-digit (b % 16)) (has_feed-encode_lower bytes))
 
 -- a text of which the test finds none
-HasNoFeed-tested : (text : List ℕ) → has_feed text ≡ false → HasNoFeed text
-HasNoFeed-tested text none found =
+HasNoLineFeed-tested : (text : List ℕ) → has_feed text ≡ false → HasNoLineFeed text
+HasNoLineFeed-tested text none found =
     both_ways _ none (list_any_at (λ b. b == 10) text found.0 10 found.1 (eq-eqb _ 10 found.2))
 
 -- a plain line without its line feed, and a tagged one
-pub HasNoFeed-plain : (digest name : List ℕ) → HasNoFeed (plain_text digest name)
+pub HasNoLineFeed-plain : (digest name : List ℕ) → HasNoLineFeed (plain_text digest name)
 unfolding plain_text
-HasNoFeed-plain digest name =
+HasNoLineFeed-plain digest name =
     let digits = encode_lower digest in
-    HasNoFeed-tested _ (has_feed-append (mark name ++ digits ++ spaces) (escaped name)
+    HasNoLineFeed-tested _ (has_feed-append (mark name ++ digits ++ spaces) (escaped name)
     (has_feed-append (mark name ++ digits) spaces
     (has_feed-append (mark name) digits (has_feed-mark name) (has_feed-encode_lower digest)) refl)
     (has_feed-escaped name))
 
-pub HasNoFeed-tagged : (digest name : List ℕ) → HasNoFeed (tagged_text digest name)
+pub HasNoLineFeed-tagged : (digest name : List ℕ) → HasNoLineFeed (tagged_text digest name)
 unfolding tagged_text
-HasNoFeed-tagged digest name =
-    let front = mark name ++ tag ++ escaped name in
-    HasNoFeed-tested _ (has_feed-append (front ++ closing) (encode_lower digest)
-    (has_feed-append front closing
-    (has_feed-append (mark name ++ tag) (escaped name)
-    (has_feed-append (mark name) tag (has_feed-mark name) refl) (has_feed-escaped name)) refl)
+HasNoLineFeed-tagged digest name =
+    let front = mark name ++ tag_prefix ++ escaped name in
+    HasNoLineFeed-tested _ (has_feed-append (front ++ tag_separator) (encode_lower digest)
+    (has_feed-append front tag_separator
+    (has_feed-append (mark name ++ tag_prefix) (escaped name)
+    (has_feed-append (mark name) tag_prefix (has_feed-mark name) refl) (has_feed-escaped name)) refl)
     (has_feed-encode_lower digest))
 
 -- what has no line feed is one line, when one ends it
-pub lines_of-one : (text : List ℕ) → HasNoFeed text → lines_of (text ++ 10 ∷ []) ≡ text ∷ []
+pub lines_of-one : (text : List ℕ) → HasNoLineFeed text → lines_of (text ++ 10 ∷ []) ≡ text ∷ []
 lines_of-one text none = lines_of-line text [] none ∙ ap (λ rest. text ∷ rest) lines_of-nil

@@ -9,9 +9,9 @@ use Rattle.hex.specs.Hex.{decode_of, is_hex_digit}
 use Rattle.hex.proofs.HexLemmas.{decode_of-ok, decode_of-same}
 use Rattle.b3_lines.specs.declared.fault.LineFault.{LineFault}
 use Rattle.b3_lines.specs.Names.{Spells, has_bad_escape, holds_bad_character, unescaped}
-use Rattle.b3_lines.specs.Reading.{AreDigits, HasOneOutcome, IsReadAs, Layout, Reads, ReadsTagged, SaysMarked, SaysMarkedTagged, SaysOne, SaysTagged, SaysUnmarked, after_mark, first_refusal, has_mark, is_tagged, layout_of, name_of, refusal_after_mark, without_return}
-use Rattle.b3_lines.specs.Parts.{HasParts, shown_of}
-use Rattle.b3_lines.specs.Writing.{closing, spaces, tag}
+use Rattle.b3_lines.specs.Reading.{AreDigits, HasOneOutcome, IsReadAs, Layout, Reads, ReadsTagged, SaysMarked, SaysMarkedTagged, SaysOne, SaysTagged, SaysUnmarked, after_mark, first_refusal, has_mark, is_tagged, layout_of, name_of, refusal_after_mark, shown_of, without_carriage_return}
+use Rattle.b3_lines.specs.Parts.{HasParts}
+use Rattle.b3_lines.specs.Writing.{spaces, tag_prefix, tag_separator}
 use Rattle.b3_lines.proofs.DigitsAndSpaces.{digest-from_digits, list_all-AllPass}
 use Rattle.b3_lines.proofs.Layouts.{LiesAs, LiesAs-plain, LiesAs-tagged, joined-plain, joined-tagged, length-layout_digits}
 use Rattle.b3_lines.proofs.Escapes.{Spells-from_lawful, Spells-unescaped, unescaped-not_nil, unescaped-nil}
@@ -19,18 +19,18 @@ use Rattle.b3_lines.proofs.Refusals.{IsPassed, IsPassed-from_none, first_refusal
 
 -- what follows the mark of a line
 abbrev pub rest_of : List ℕ → List ℕ
-rest_of line = after_mark (without_return line)
+rest_of line = after_mark (without_carriage_return line)
 
 -- the name of a line as it stands
-abbrev pub spelled_of : List ℕ → List ℕ
-spelled_of line = (layout_of (rest_of line)).spelled
+abbrev pub raw_name_of : List ℕ → List ℕ
+raw_name_of line = (layout_of (rest_of line)).raw_name
 
 -- what a line says, by its digits and the name as it stands
 pub record SaysAs (line digest name shown : List ℕ) : Type 0 where
   pub accepted : first_refusal line ≡ None
   pub digits : decode_of (layout_of (rest_of line)).digits ≡ Ok digest
-  pub name_is : name ≡ name_of (has_mark (without_return line)) (spelled_of line)
-  pub shown_is : shown ≡ shown_of (has_mark (without_return line)) (spelled_of line)
+  pub name_is : name ≡ name_of (has_mark (without_carriage_return line)) (raw_name_of line)
+  pub shown_is : shown ≡ shown_of (has_mark (without_carriage_return line)) (raw_name_of line)
 
 -- ---- what is read is what the line says
 
@@ -44,33 +44,33 @@ not_nil : (name : List ℕ) → (length name == 0) ≡ false → name ≢ []
 not_nil name named empty = eqb-false _ 0 named (ap length empty)
 
 -- nor is it where its escapes are taken back
-name_of-not_nil : (marked : Bool) (spelled : List ℕ) → (length spelled == 0) ≡ false → name_of marked spelled ≢ []
-name_of-not_nil true spelled named = unescaped-not_nil spelled (not_nil spelled named)
-name_of-not_nil false spelled named = not_nil spelled named
+name_of-not_nil : (marked : Bool) (raw_name : List ℕ) → (length raw_name == 0) ≡ false → name_of marked raw_name ≢ []
+name_of-not_nil true raw_name named = unescaped-not_nil raw_name (not_nil raw_name named)
+name_of-not_nil false raw_name named = not_nil raw_name named
 
 -- the parts of a text, marked or not
-module _ (text digest digits spelled : List ℕ) (are : AreDigits digits digest)
-    (lawful : has_mark text ≡ true → has_bad_escape spelled ≡ false) where
+module _ (text digest digits raw_name : List ℕ) (are : AreDigits digits digest)
+    (lawful : has_mark text ≡ true → has_bad_escape raw_name ≡ false) where
   -- its name, and the name shown
   abbrev its_name : List ℕ
-  its_name = name_of (has_mark text) spelled
+  its_name = name_of (has_mark text) raw_name
 
   abbrev its_shown : List ℕ
-  its_shown = shown_of (has_mark text) spelled
+  its_shown = shown_of (has_mark text) raw_name
 
   -- a marked one spells its name
-  spells : has_mark text ≡ true → Spells spelled its_name
+  spells : has_mark text ≡ true → Spells raw_name its_name
   spells marked =
-      subst (Spells spelled) (sym (cond-true (has_mark text) (unescaped spelled) spelled marked))
-      (Spells-from_lawful spelled (lawful marked))
+      subst (Spells raw_name) (sym (cond-true (has_mark text) (unescaped raw_name) raw_name marked))
+      (Spells-from_lawful raw_name (lawful marked))
 
   -- the name of another stands as it is
-  name-unmarked : has_mark text ≡ false → spelled ≡ its_name
-  name-unmarked unmarked = sym (cond-false (has_mark text) (unescaped spelled) spelled unmarked)
+  name-unmarked : has_mark text ≡ false → raw_name ≡ its_name
+  name-unmarked unmarked = sym (cond-false (has_mark text) (unescaped raw_name) raw_name unmarked)
 
   -- and is shown so
   shown-unmarked : has_mark text ≡ false → its_shown ≡ its_name
-  shown-unmarked unmarked = cond-false (has_mark text) (92 ∷ spelled) spelled unmarked ∙ name-unmarked unmarked
+  shown-unmarked unmarked = cond-false (has_mark text) (92 ∷ raw_name) raw_name unmarked ∙ name-unmarked unmarked
 
   -- what a marked text begins with
   whole-marked : has_mark text ≡ true → text ≡ 92 ∷ after_mark text
@@ -82,17 +82,17 @@ module _ (text digest digits spelled : List ℕ) (are : AreDigits digits digest)
   whole-unmarked unmarked = sym (cond-false (has_mark text) (drop 1 text) text unmarked)
 
   -- digits, two spaces and a name
-  says-plain : after_mark text ≡ digits ++ spaces ++ spelled
+  says-plain : after_mark text ≡ digits ++ spaces ++ raw_name
       → SaysUnmarked text digest its_name its_shown ⊎ SaysMarked text digest its_name its_shown
   says-plain joined =
       elim (cases_Bool (has_mark text)) [
         | inl marked ↦ inr (record {
           digits = digits;
-          spelled = spelled;
+          raw_name = raw_name;
           digits_are = are;
           text_is = whole-marked marked ∙ ap (λ t. 92 ∷ t) joined;
           spells = spells marked;
-          shown_is = cond-true (has_mark text) (92 ∷ spelled) spelled marked;
+          shown_is = cond-true (has_mark text) (92 ∷ raw_name) raw_name marked;
         })
         | inr unmarked ↦ inl (record {
           digits = digits;
@@ -103,23 +103,23 @@ module _ (text digest digits spelled : List ℕ) (are : AreDigits digits digest)
       ]
 
   -- `BLAKE3 (`, a name, `) = ` and digits
-  says-tagged : after_mark text ≡ tag ++ spelled ++ closing ++ digits
+  says-tagged : after_mark text ≡ tag_prefix ++ raw_name ++ tag_separator ++ digits
       → SaysTagged text digest its_name its_shown ⊎ SaysMarkedTagged text digest its_name its_shown
   says-tagged joined =
       elim (cases_Bool (has_mark text)) [
         | inl marked ↦ inr (record {
           digits = digits;
-          spelled = spelled;
+          raw_name = raw_name;
           digits_are = are;
           text_is = whole-marked marked ∙ ap (λ t. 92 ∷ t) joined;
           spells = spells marked;
-          shown_is = cond-true (has_mark text) (92 ∷ spelled) spelled marked;
+          shown_is = cond-true (has_mark text) (92 ∷ raw_name) raw_name marked;
         })
         | inr unmarked ↦ inl (record {
           digits = digits;
           digits_are = are;
           text_is = whole-unmarked unmarked ∙ joined
-              ∙ ap (λ t. tag ++ t ++ closing ++ digits) (name-unmarked unmarked);
+              ∙ ap (λ t. tag_prefix ++ t ++ tag_separator ++ digits) (name-unmarked unmarked);
           shown_is = shown-unmarked unmarked;
         })
       ]
@@ -127,32 +127,32 @@ module _ (text digest digits spelled : List ℕ) (are : AreDigits digits digest)
 -- a line that is not refused says its digits and its name
 pub IsReadAs-from_none : (line digest : List ℕ) → first_refusal line ≡ None
     → decode_of (layout_of (rest_of line)).digits ≡ Ok digest
-    → IsReadAs line digest (name_of (has_mark (without_return line)) (spelled_of line))
-    (shown_of (has_mark (without_return line)) (spelled_of line))
+    → IsReadAs line digest (name_of (has_mark (without_carriage_return line)) (raw_name_of line))
+    (shown_of (has_mark (without_carriage_return line)) (raw_name_of line))
 IsReadAs-from_none line digest none ok =
-    let text = without_return line in
+    let text = without_carriage_return line in
     let rest = rest_of line in
     let layout = layout_of rest in
     let parts = text-from_none line none in
     let passed =
     IsPassed-from_none (has_mark text) layout (sym (refusal_after_mark-of (has_mark text) rest) ∙ parts.2) in
     let digits : AreDigits layout.digits digest =
-    record { count = length-layout_digits rest passed.is_parted.long; value = ok } in
-    let lawful : has_mark text ≡ true → has_bad_escape layout.spelled ≡ false =
-    λ marked. sym (ap (λ m. m && has_bad_escape layout.spelled) marked) ∙ passed.lawful in
+    record { count = length-layout_digits rest passed.has_separator.long; value = ok } in
+    let lawful : has_mark text ≡ true → has_bad_escape layout.raw_name ≡ false =
+    λ marked. sym (ap (λ m. m && has_bad_escape layout.raw_name) marked) ∙ passed.lawful in
     elim (cases_Bool (is_tagged rest)) [
       | inl tagged ↦ inr (record {
-        says = says-tagged text digest layout.digits layout.spelled digits lawful
-            (joined-tagged rest tagged passed.is_parted.long passed.is_parted.parted);
+        says = says-tagged text digest layout.digits layout.raw_name digits lawful
+            (joined-tagged rest tagged passed.has_separator.long passed.has_separator.parted);
         is_text = IsUtf8-from_is_utf8 text parts.1;
-        is_named = name_of-not_nil (has_mark text) layout.spelled passed.named;
+        is_named = name_of-not_nil (has_mark text) layout.raw_name passed.named;
         is_lawful = passed.allowed;
       })
       | inr untagged ↦ inl (record {
-        says = says-plain text digest layout.digits layout.spelled digits lawful
-            (joined-plain rest untagged passed.is_parted.parted);
+        says = says-plain text digest layout.digits layout.raw_name digits lawful
+            (joined-plain rest untagged passed.has_separator.parted);
         is_text = IsUtf8-from_is_utf8 text parts.1;
-        is_named = name_of-not_nil (has_mark text) layout.spelled passed.named;
+        is_named = name_of-not_nil (has_mark text) layout.raw_name passed.named;
         is_lawful = passed.allowed;
       })
     ]
@@ -160,46 +160,46 @@ IsReadAs-from_none line digest none ok =
 -- ---- what the line says is what is read
 
 -- digits and a lawful name pass the tests
-IsPassed-from_digits : (marked : Bool) (layout : Layout) (digits digest spelled : List ℕ) → AreDigits digits digest
-    → LiesAs layout digits spelled → spelled ≢ [] → (marked && has_bad_escape spelled) ≡ false
-    → holds_bad_character (name_of marked spelled) ≡ false
+IsPassed-from_digits : (marked : Bool) (layout : Layout) (digits digest raw_name : List ℕ) → AreDigits digits digest
+    → LiesAs layout digits raw_name → raw_name ≢ [] → (marked && has_bad_escape raw_name) ≡ false
+    → holds_bad_character (name_of marked raw_name) ≡ false
     → IsPassed marked layout
-IsPassed-from_digits marked layout digits digest spelled are lies some lawful allowed = record {
-  is_parted = record {
+IsPassed-from_digits marked layout digits digest raw_name are lies some lawful allowed = record {
+  has_separator = record {
     long = lies.long;
     digits = ap (list_all is_hex_digit) lies.digits_are
         ∙ list_all-AllPass digits (decode_of-ok digits digest are.value).1;
     parted = lies.parted;
   };
   named = ap (λ t. length t == 0) lies.spelled_is
-      ∙ ne_eqb (length spelled) 0 (λ none. some (nil_from_length spelled none));
+      ∙ ne_eqb (length raw_name) 0 (λ none. some (nil_from_length raw_name none));
   lawful = ap (λ t. marked && has_bad_escape t) lies.spelled_is ∙ lawful;
   allowed = ap (λ t. holds_bad_character (name_of marked t)) lies.spelled_is ∙ allowed;
 }
 
 -- a line of a mark and of parts that lie so
-says_as : (line digest name shown digits spelled rest : List ℕ) (marked : Bool)
-    → has_mark (without_return line) ≡ marked
-    → after_mark (without_return line) ≡ rest → (length (without_return line) == 0) ≡ false
-    → IsUtf8 (without_return line)
-    → AreDigits digits digest → LiesAs (layout_of rest) digits spelled → spelled ≢ []
-    → (marked && has_bad_escape spelled) ≡ false
-    → holds_bad_character name ≡ false → name ≡ name_of marked spelled → shown ≡ shown_of marked spelled
+says_as : (line digest name shown digits raw_name rest : List ℕ) (marked : Bool)
+    → has_mark (without_carriage_return line) ≡ marked
+    → after_mark (without_carriage_return line) ≡ rest → (length (without_carriage_return line) == 0) ≡ false
+    → IsUtf8 (without_carriage_return line)
+    → AreDigits digits digest → LiesAs (layout_of rest) digits raw_name → raw_name ≢ []
+    → (marked && has_bad_escape raw_name) ≡ false
+    → holds_bad_character name ≡ false → name ≡ name_of marked raw_name → shown ≡ shown_of marked raw_name
     → SaysAs line digest name shown
-says_as line digest name shown digits spelled rest marked mark_is rest_is filled utf8 are lies some lawful allowed
+says_as line digest name shown digits raw_name rest marked mark_is rest_is filled utf8 are lies some lawful allowed
     name_is shown_is =
-    let text = without_return line in
-    let passed = IsPassed-from_digits marked (layout_of rest) digits digest spelled are lies some lawful
+    let text = without_carriage_return line in
+    let passed = IsPassed-from_digits marked (layout_of rest) digits digest raw_name are lies some lawful
     (ap holds_bad_character (sym name_is) ∙ allowed) in
-    let stands : spelled ≡ spelled_of line = sym (ap (λ r. (layout_of r).spelled) rest_is ∙ lies.spelled_is) in
+    let stands : raw_name ≡ raw_name_of line = sym (ap (λ r. (layout_of r).raw_name) rest_is ∙ lies.spelled_is) in
     record {
       accepted =
           first_refusal-text line filled (is_utf8-from_IsUtf8 text utf8)
           ∙ ap (λ m. refusal_after_mark m (after_mark text)) mark_is ∙ ap (refusal_after_mark marked) rest_is
           ∙ refusal_after_mark-of marked rest ∙ refusal-none marked (layout_of rest) passed;
       digits = ap (λ r. decode_of (layout_of r).digits) rest_is ∙ ap decode_of lies.digits_are ∙ are.value;
-      name_is = name_is ∙ ap (name_of marked) stands ∙ ap (λ m. name_of m (spelled_of line)) (sym mark_is);
-      shown_is = shown_is ∙ ap (shown_of marked) stands ∙ ap (λ m. shown_of m (spelled_of line)) (sym mark_is);
+      name_is = name_is ∙ ap (name_of marked) stands ∙ ap (λ m. name_of m (raw_name_of line)) (sym mark_is);
+      shown_is = shown_is ∙ ap (shown_of marked) stands ∙ ap (λ m. shown_of m (raw_name_of line)) (sym mark_is);
     }
 
 -- digits begin with no mark
@@ -219,13 +219,13 @@ filled-cons : (b : ℕ) (tail : List ℕ) → (length (b ∷ tail) == 0) ≡ fal
 filled-cons b tail = ne_eqb _ 0 (λ none. absurd (omega (arith, none)))
 
 -- so is a tagged line
-filled-tagged : (name digits : List ℕ) → (length (tag ++ name ++ closing ++ digits) == 0) ≡ false
+filled-tagged : (name digits : List ℕ) → (length (tag_prefix ++ name ++ tag_separator ++ digits) == 0) ≡ false
 filled-tagged name digits = ne_eqb _ 0 (λ none. absurd (omega (arith, none)))
 
 -- what a plain line says, it says by its digits and its name as it stands
 SaysAs-from_Reads : (line digest name shown : List ℕ) → Reads line digest name shown → SaysAs line digest name shown
 SaysAs-from_Reads line digest name shown reads =
-    let text = without_return line in
+    let text = without_carriage_return line in
     elim reads.says [
       | inl says ↦
           let whole : text ≡ says.digits ++ (spaces ++ name) = says.text_is ∙ append_assoc says.digits spaces name in
@@ -236,13 +236,13 @@ SaysAs-from_Reads line digest name shown reads =
           reads.is_text says.digits_are (LiesAs-plain text says.digits digest name says.digits_are says.text_is)
           reads.is_named refl reads.is_lawful refl says.shown_is
       | inr says ↦
-          let spells = Spells-unescaped says.spelled name says.spells in
-          let rest = says.digits ++ spaces ++ says.spelled in
+          let spells = Spells-unescaped says.raw_name name says.spells in
+          let rest = says.digits ++ spaces ++ says.raw_name in
           let mark_is : has_mark text ≡ true = ap has_mark says.text_is in
-          says_as line digest name shown says.digits says.spelled rest true mark_is
+          says_as line digest name shown says.digits says.raw_name rest true mark_is
           (cond-true (has_mark text) _ _ mark_is ∙ ap (drop 1) says.text_is)
           (ap (λ t. length t == 0) says.text_is ∙ filled-cons 92 rest)
-          reads.is_text says.digits_are (LiesAs-plain rest says.digits digest says.spelled says.digits_are refl)
+          reads.is_text says.digits_are (LiesAs-plain rest says.digits digest says.raw_name says.digits_are refl)
           (λ none. reads.is_named (spells.1 ∙ ap unescaped none ∙ unescaped-nil)) spells.0
           reads.is_lawful spells.1 says.shown_is
     ]
@@ -251,7 +251,7 @@ SaysAs-from_Reads line digest name shown reads =
 SaysAs-from_ReadsTagged : (line digest name shown : List ℕ) → ReadsTagged line digest name shown
     → SaysAs line digest name shown
 SaysAs-from_ReadsTagged line digest name shown reads =
-    let text = without_return line in
+    let text = without_carriage_return line in
     elim reads.says [
       | inl says ↦
           let mark_is : has_mark text ≡ false = ap has_mark says.text_is in
@@ -260,13 +260,13 @@ SaysAs-from_ReadsTagged line digest name shown reads =
           reads.is_text says.digits_are (LiesAs-tagged text says.digits name says.text_is says.digits_are.count)
           reads.is_named refl reads.is_lawful refl says.shown_is
       | inr says ↦
-          let spells = Spells-unescaped says.spelled name says.spells in
-          let rest = tag ++ says.spelled ++ closing ++ says.digits in
+          let spells = Spells-unescaped says.raw_name name says.spells in
+          let rest = tag_prefix ++ says.raw_name ++ tag_separator ++ says.digits in
           let mark_is : has_mark text ≡ true = ap has_mark says.text_is in
-          says_as line digest name shown says.digits says.spelled rest true mark_is
+          says_as line digest name shown says.digits says.raw_name rest true mark_is
           (cond-true (has_mark text) _ _ mark_is ∙ ap (drop 1) says.text_is)
           (ap (λ t. length t == 0) says.text_is ∙ filled-cons 92 rest)
-          reads.is_text says.digits_are (LiesAs-tagged rest says.digits says.spelled refl says.digits_are.count)
+          reads.is_text says.digits_are (LiesAs-tagged rest says.digits says.raw_name refl says.digits_are.count)
           (λ none. reads.is_named (spells.1 ∙ ap unescaped none ∙ unescaped-nil)) spells.0
           reads.is_lawful spells.1 says.shown_is
     ]
@@ -295,11 +295,11 @@ SaysAs-same line digest name shown digest₂ name₂ shown₂ one two = (
 )
 
 -- the parts of a line, and what is made of them
-pub SaysAs-from_parts : (line digest spelled name shown : List ℕ) (marked : Bool) (escapes : ℕ)
-    → HasParts line digest spelled marked escapes
-    → name ≡ name_of marked spelled → shown ≡ shown_of marked spelled → SaysAs line digest name shown
-SaysAs-from_parts line digest spelled name shown marked escapes has name_is shown_is =
-    let stands = spelled_of line in
+pub SaysAs-from_parts : (line digest raw_name name shown : List ℕ) (marked : Bool) (escapes : ℕ)
+    → HasParts line digest raw_name marked escapes
+    → name ≡ name_of marked raw_name → shown ≡ shown_of marked raw_name → SaysAs line digest name shown
+SaysAs-from_parts line digest raw_name name shown marked escapes has name_is shown_is =
+    let stands = raw_name_of line in
     record {
       accepted = has.accepted;
       digits = has.parts.digits;
@@ -314,8 +314,8 @@ pub SaysOne-from_none : (line digest : List ℕ) → first_refusal line ≡ None
     → decode_of (layout_of (rest_of line)).digits ≡ Ok digest → SaysOne line
 SaysOne-from_none line digest none ok = record {
   digest = digest;
-  name = name_of (has_mark (without_return line)) (spelled_of line);
-  shown = shown_of (has_mark (without_return line)) (spelled_of line);
+  name = name_of (has_mark (without_carriage_return line)) (raw_name_of line);
+  shown = shown_of (has_mark (without_carriage_return line)) (raw_name_of line);
   reads = IsReadAs-from_none line digest none ok;
   only = λ d n s reads.
       let said = SaysAs-from_IsReadAs line d n s reads in
@@ -326,11 +326,12 @@ SaysOne-from_none line digest none ok = record {
 digest_of : (line : List ℕ) → first_refusal line ≡ None
     → (digest : List ℕ) × (decode_of (layout_of (rest_of line)).digits ≡ Ok digest)
 digest_of line none =
-    let mark = has_mark (without_return line) in
+    let mark = has_mark (without_carriage_return line) in
     let rest = rest_of line in
     let passed = IsPassed-from_none mark (layout_of rest)
     (sym (refusal_after_mark-of mark rest) ∙ (text-from_none line none).2) in
-    digest-from_digits (layout_of rest).digits (length-layout_digits rest passed.is_parted.long) passed.is_parted.digits
+    digest-from_digits (layout_of rest).digits (length-layout_digits rest passed.has_separator.long)
+    passed.has_separator.digits
 
 -- the outcome of a line, by its first refusal
 one_outcome_at : (line : List ℕ) (refusal : Option LineFault) → first_refusal line ≡ refusal

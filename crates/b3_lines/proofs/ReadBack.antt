@@ -8,10 +8,10 @@ use Rattle.std.proofs.lemmas.List.Folds.{list_any-append, list_any_at, list_any_
 use Rattle.hex.specs.Hex.{IsBytes, encode_lower, is_hex_digit, lower_digits}
 use Rattle.hex.proofs.HexLemmas.{decode_of-encode_lower, decode_of-ok, length-encode_with}
 use Rattle.b3_lines.specs.Names.{unescaped, Piece, Spells, backslash, carriage_return, escape, escaped, holds_bad_character, is_escaped, itself, line_feed, meaning, spelling}
-use Rattle.b3_lines.specs.Reading.{AreDigits, Reads, ReadsTagged, without_return}
-use Rattle.b3_lines.specs.Writing.{closing, is_marked, mark, plain_text, shown, spaces, tag, tagged_text}
+use Rattle.b3_lines.specs.Reading.{AreDigits, Reads, ReadsTagged, without_carriage_return}
+use Rattle.b3_lines.specs.Writing.{is_marked, mark, plain_text, shown, spaces, tag_prefix, tag_separator, tagged_text}
 use Rattle.b3_lines.proofs.Escapes.{Spells-unescaped, escape-itself, escaped-cons, escaped-nil, unescaped-nil}
-use Rattle.b3_lines.proofs.Refusals.{without_return-cond}
+use Rattle.b3_lines.proofs.Refusals.{without_carriage_return-cond}
 use Rattle.b3_lines.proofs.Marks.{escaped-unmarked, shown-marked, shown-unmarked}
 use Rattle.b3_lines.proofs.Texts.{IsUtf8-plain, IsUtf8-tagged}
 
@@ -84,9 +84,9 @@ no_return-escaped (b ∷ name) =
     ∙ or_from _ _ (no_return-escape b) (no_return-escaped name)
 
 -- what ends in no carriage return is left as it is
-without_return-same : (front tail : List ℕ) → tail ≢ [] → list_any (λ x. x == 13) tail ≡ false
-    → without_return (front ++ tail) ≡ front ++ tail
-without_return-same front tail some none =
+without_carriage_return-same : (front tail : List ℕ) → tail ≢ [] → list_any (λ x. x == 13) tail ≡ false
+    → without_carriage_return (front ++ tail) ≡ front ++ tail
+without_carriage_return-same front tail some none =
     let whole = front ++ tail in
     let last = length whole - 1 in
     let count = length-append front tail in
@@ -99,7 +99,7 @@ without_return-same front tail some none =
     both_ways _ none
     (list_any_at (λ x. x == 13) tail (last - length front) 0 (omega (arith, count))
     (ap (λ x. x == 13) (sym in_tail) ∙ is))) in
-    without_return-cond whole ∙ cond-false _ _ _ no_return
+    without_carriage_return-cond whole ∙ cond-false _ _ _ no_return
 
 -- ---- reading back
 
@@ -111,11 +111,11 @@ AreDigits-encode_lower digest count bytes =
     record { count = omega (arith, twice, count); value = decode_of-encode_lower digest bytes }
 
 -- a line that was written has no carriage return at its end
-without_return-plain : (digest name : List ℕ) → name ≢ []
-    → without_return (plain_text digest name) ≡ plain_text digest name
+without_carriage_return-plain : (digest name : List ℕ) → name ≢ []
+    → without_carriage_return (plain_text digest name) ≡ plain_text digest name
 unfolding plain_text
-without_return-plain digest name some =
-    without_return-same (mark name ++ encode_lower digest ++ spaces) (escaped name) (escaped-not_nil name some)
+without_carriage_return-plain digest name some =
+    without_carriage_return-same (mark name ++ encode_lower digest ++ spaces) (escaped name) (escaped-not_nil name some)
     (no_return-escaped name)
 
 -- the line of a marked name
@@ -139,13 +139,13 @@ pub Reads-plain : (digest name : List ℕ) → length digest ≡ 32 → IsBytes 
     → IsUtf8 name → Reads (plain_text digest name) digest name (shown name)
 Reads-plain digest name count bytes some allowed utf8 =
     let line = plain_text digest name in
-    let same = without_return-plain digest name some in
+    let same = without_carriage_return-plain digest name some in
     let digits = AreDigits-encode_lower digest count bytes in
     record {
       says = elim (cases_Bool (is_marked name)) [
         | inl marked ↦ inr (record {
           digits = encode_lower digest;
-          spelled = escaped name;
+          raw_name = escaped name;
           digits_are = digits;
           text_is = same ∙ plain-marked digest name marked;
           spells = Spells-escaped name;
@@ -173,42 +173,44 @@ no_return-digits digits digest are =
     (λ k d within. ne_eqb _ 13 (λ is. cc (sym (each k d within) ∙ ap is_hex_digit is)))
 
 -- a tagged line that was written has no carriage return at its end
-without_return-tagged : (digest name : List ℕ) → length digest ≡ 32 → IsBytes digest
-    → without_return (tagged_text digest name) ≡ tagged_text digest name
+without_carriage_return-tagged : (digest name : List ℕ) → length digest ≡ 32 → IsBytes digest
+    → without_carriage_return (tagged_text digest name) ≡ tagged_text digest name
 unfolding tagged_text
-without_return-tagged digest name count bytes =
+without_carriage_return-tagged digest name count bytes =
     let digits = AreDigits-encode_lower digest count bytes in
-    without_return-same (mark name ++ tag ++ escaped name ++ closing) (encode_lower digest)
+    without_carriage_return-same (mark name ++ tag_prefix ++ escaped name ++ tag_separator) (encode_lower digest)
     (λ none. absurd (omega (arith, digits.count, ap length none)))
     (no_return-digits (encode_lower digest) digest digits)
 
 -- the tagged line of a marked name
 tagged-marked : (digest name : List ℕ) → is_marked name ≡ true
-    → tagged_text digest name ≡ 92 ∷ (tag ++ escaped name ++ closing ++ encode_lower digest)
+    → tagged_text digest name ≡ 92 ∷ (tag_prefix ++ escaped name ++ tag_separator ++ encode_lower digest)
 unfolding tagged_text
 tagged-marked digest name marked =
-    ap (λ m. m ++ tag ++ escaped name ++ closing ++ encode_lower digest) (cond-true (is_marked name) _ _ marked)
+    ap (λ m. m ++ tag_prefix ++ escaped name ++ tag_separator ++ encode_lower digest)
+    (cond-true (is_marked name) _ _ marked)
 
 -- and of a name without mark
 tagged-unmarked : (digest name : List ℕ) → is_marked name ≡ false
-    → tagged_text digest name ≡ tag ++ name ++ closing ++ encode_lower digest
+    → tagged_text digest name ≡ tag_prefix ++ name ++ tag_separator ++ encode_lower digest
 unfolding tagged_text
 tagged-unmarked digest name unmarked =
-    ap (λ m. m ++ tag ++ escaped name ++ closing ++ encode_lower digest) (cond-false (is_marked name) _ _ unmarked)
-    ∙ ap (λ t. tag ++ t ++ closing ++ encode_lower digest) (escaped-unmarked name unmarked)
+    ap (λ m. m ++ tag_prefix ++ escaped name ++ tag_separator ++ encode_lower digest)
+    (cond-false (is_marked name) _ _ unmarked)
+    ∙ ap (λ t. tag_prefix ++ t ++ tag_separator ++ encode_lower digest) (escaped-unmarked name unmarked)
 
 -- a tagged line reads back as a plain one does
 pub ReadsTagged-tagged : (digest name : List ℕ) → length digest ≡ 32 → IsBytes digest → name ≢ []
     → holds_bad_character name ≡ false
     → IsUtf8 name → ReadsTagged (tagged_text digest name) digest name (shown name)
 ReadsTagged-tagged digest name count bytes some allowed utf8 =
-    let same = without_return-tagged digest name count bytes in
+    let same = without_carriage_return-tagged digest name count bytes in
     let digits = AreDigits-encode_lower digest count bytes in
     record {
       says = elim (cases_Bool (is_marked name)) [
         | inl marked ↦ inr (record {
           digits = encode_lower digest;
-          spelled = escaped name;
+          raw_name = escaped name;
           digits_are = digits;
           text_is = same ∙ tagged-marked digest name marked;
           spells = Spells-escaped name;

@@ -14,7 +14,7 @@ use Rattle.b3_lines.specs.declared.fault.LineFault.{LineFault}
 use Rattle.b3_lines.specs.declared.fault.LineFault.TheVariants.{Empty, NotText, Short, NotDigits, NoSpaces, NoName, BadEscape, BadCharacter, Memory}
 use Rattle.b3_lines.specs.Names.{has_bad_escape, holds_bad_character}
 use Rattle.b3_lines.specs.Parts.{IsCut}
-use Rattle.b3_lines.specs.Reading.{Layout, after_mark, first_refusal, has_mark, layout_of, name_of, refusal_after_mark, refusal_of, without_return}
+use Rattle.b3_lines.specs.Reading.{Layout, after_mark, first_refusal, has_mark, layout_of, name_of, refusal_after_mark, refusal_of, without_carriage_return}
 use Rattle.b3_lines.proofs.DigitsAndSpaces.{list_all-AllPass}
 
 -- six tests in a row
@@ -73,11 +73,11 @@ module _ (layout : Layout) where
   pub record IsParted : Type 0 where
     pub long : layout.is_short ≡ false
     pub digits : list_all is_hex_digit layout.digits ≡ true
-    pub parted : layout.is_parted ≡ true
+    pub parted : layout.has_separator ≡ true
 
   -- so they are by parts that were cut out
-  pub IsParted-from_cut : {digest spelled : List ℕ} → IsCut layout digest spelled → IsParted
-  IsParted-from_cut {digest} {spelled} cut = record {
+  pub IsParted-from_cut : {digest raw_name : List ℕ} → IsCut layout digest raw_name → IsParted
+  IsParted-from_cut {digest} {raw_name} cut = record {
     long = cut.long;
     digits = list_all-AllPass layout.digits (decode_of-ok layout.digits digest cut.digits).1;
     parted = cut.parted;
@@ -86,10 +86,10 @@ module _ (layout : Layout) where
 module _ (marked : Bool) (layout : Layout) where
   -- all tests are passed
   pub record IsPassed : Type 0 where
-    pub is_parted : IsParted layout
-    pub named : (length layout.spelled == 0) ≡ false
-    pub lawful : (marked && has_bad_escape layout.spelled) ≡ false
-    pub allowed : holds_bad_character (name_of marked layout.spelled) ≡ false
+    pub has_separator : IsParted layout
+    pub named : (length layout.raw_name == 0) ≡ false
+    pub lawful : (marked && has_bad_escape layout.raw_name) ≡ false
+    pub allowed : holds_bad_character (name_of marked layout.raw_name) ≡ false
 
   -- too few bytes
   pub refusal-short : layout.is_short ≡ true → refusal_of marked layout ≡ Some Short
@@ -102,50 +102,50 @@ module _ (marked : Bool) (layout : Layout) where
 
   -- not what must stand between digits and name
   pub refusal-no_spaces : layout.is_short ≡ false → list_all is_hex_digit layout.digits ≡ true
-      → layout.is_parted ≡ false → refusal_of marked layout ≡ Some NoSpaces
+      → layout.has_separator ≡ false → refusal_of marked layout ≡ Some NoSpaces
   refusal-no_spaces long digits bad =
       cond-false _ _ _ long ∙ cond-false _ _ _ (not_from_true _ digits) ∙ cond-true _ _ _ (not_from_false _ bad)
 
   -- then three tests are left
   refusal-parted : IsParted layout → refusal_of marked layout
-      ≡ (if length layout.spelled == 0 then Some NoName
-      else if marked && has_bad_escape layout.spelled then Some BadEscape
-      else if holds_bad_character (name_of marked layout.spelled) then Some BadCharacter
+      ≡ (if length layout.raw_name == 0 then Some NoName
+      else if marked && has_bad_escape layout.raw_name then Some BadEscape
+      else if holds_bad_character (name_of marked layout.raw_name) then Some BadCharacter
       else None)
   refusal-parted is =
       cond-false _ _ _ is.long ∙ cond-false _ _ _ (not_from_true _ is.digits)
       ∙ cond-false _ _ _ (not_from_true _ is.parted)
 
   -- no name
-  pub refusal-no_name : IsParted layout → (length layout.spelled == 0) ≡ true → refusal_of marked layout ≡ Some NoName
+  pub refusal-no_name : IsParted layout → (length layout.raw_name == 0) ≡ true → refusal_of marked layout ≡ Some NoName
   refusal-no_name is empty = refusal-parted is ∙ cond-true _ _ _ empty
 
   -- a bad escape in a marked line
-  pub refusal-bad_escape : IsParted layout → (length layout.spelled == 0) ≡ false
-      → (marked && has_bad_escape layout.spelled) ≡ true → refusal_of marked layout ≡ Some BadEscape
+  pub refusal-bad_escape : IsParted layout → (length layout.raw_name == 0) ≡ false
+      → (marked && has_bad_escape layout.raw_name) ≡ true → refusal_of marked layout ≡ Some BadEscape
   refusal-bad_escape is named bad = refusal-parted is ∙ cond-false _ _ _ named ∙ cond-true _ _ _ bad
 
   -- NUL or U+FFFD in the name
-  pub refusal-bad_character : IsParted layout → (length layout.spelled == 0) ≡ false
-      → (marked && has_bad_escape layout.spelled) ≡ false
-      → holds_bad_character (name_of marked layout.spelled) ≡ true → refusal_of marked layout ≡ Some BadCharacter
+  pub refusal-bad_character : IsParted layout → (length layout.raw_name == 0) ≡ false
+      → (marked && has_bad_escape layout.raw_name) ≡ false
+      → holds_bad_character (name_of marked layout.raw_name) ≡ true → refusal_of marked layout ≡ Some BadCharacter
   refusal-bad_character is named lawful bad =
       refusal-parted is ∙ cond-false _ _ _ named ∙ cond-false _ _ _ lawful ∙ cond-true _ _ _ bad
 
   -- what has passed all tests is not refused
   pub refusal-none : IsPassed → refusal_of marked layout ≡ None
   refusal-none passed =
-      refusal-parted passed.is_parted ∙ cond-false _ _ _ passed.named ∙ cond-false _ _ _ passed.lawful
+      refusal-parted passed.has_separator ∙ cond-false _ _ _ passed.named ∙ cond-false _ _ _ passed.lawful
       ∙ cond-false _ _ _ passed.allowed
 
   -- what is not refused has passed all tests
   pub IsPassed-from_none : refusal_of marked layout ≡ None → IsPassed
   IsPassed-from_none none =
-      let parts = six-none layout.is_short (list_all is_hex_digit layout.digits) layout.is_parted
-      (length layout.spelled == 0) (marked && has_bad_escape layout.spelled)
-      (holds_bad_character (name_of marked layout.spelled)) none in
+      let parts = six-none layout.is_short (list_all is_hex_digit layout.digits) layout.has_separator
+      (length layout.raw_name == 0) (marked && has_bad_escape layout.raw_name)
+      (holds_bad_character (name_of marked layout.raw_name)) none in
       record {
-        is_parted = record { long = parts.0; digits = parts.1; parted = parts.2 };
+        has_separator = record { long = parts.0; digits = parts.1; parted = parts.2 };
         named = parts.3;
         lawful = parts.4;
         allowed = parts.5;
@@ -160,7 +160,7 @@ refusal_after_mark-of marked rest = refl
 module _ (line : List ℕ) where
   -- the line without its end
   abbrev text : List ℕ
-  text = without_return line
+  text = without_carriage_return line
 
   -- two tests come before those of what follows the mark
   first_refusal-two : first_refusal line
@@ -193,14 +193,14 @@ module _ (line : List ℕ) where
       two-not_memory _ _ _
       (λ later.
       let layout = layout_of (after_mark text) in
-      six-not_memory layout.is_short (list_all is_hex_digit layout.digits) layout.is_parted
-      (length layout.spelled == 0) (has_mark text && has_bad_escape layout.spelled)
-      (holds_bad_character (name_of (has_mark text) layout.spelled))
+      six-not_memory layout.is_short (list_all is_hex_digit layout.digits) layout.has_separator
+      (length layout.raw_name == 0) (has_mark text && has_bad_escape layout.raw_name)
+      (holds_bad_character (name_of (has_mark text) layout.raw_name))
       (sym (refusal_after_mark-of (has_mark text) (after_mark text)) ∙ later))
       (sym first_refusal-two ∙ memory)
 
 -- the first refusal of a text is that of what follows its mark
-pub first_refusal-rest : (line text rest : List ℕ) (marked : Bool) → text ≡ without_return line → IsUtf8 text
+pub first_refusal-rest : (line text rest : List ℕ) (marked : Bool) → text ≡ without_carriage_return line → IsUtf8 text
     → (length text == 0) ≡ false
     → marked ≡ has_mark text → rest ≡ after_mark text → first_refusal line ≡ refusal_after_mark marked rest
 first_refusal-rest line text rest marked text_is utf8 some mark_is rest_is =
@@ -222,19 +222,19 @@ ends-return (b ∷ line) =
     ∙ and-true (slice_index s (length s - 1) == 13)
 
 -- the line without its end, as a choice
-pub without_return-cond : (line : List ℕ)
-    → without_return line ≡ cond (slice_index line (length line - 1) == 13) (take (length line - 1) line) line
-unfolding without_return
-without_return-cond line = refl
+pub without_carriage_return-cond : (line : List ℕ)
+    → without_carriage_return line ≡ cond (slice_index line (length line - 1) == 13) (take (length line - 1) line) line
+unfolding without_carriage_return
+without_carriage_return-cond line = refl
 
 -- what stripping it leaves
-pub without_return-stripped : (line : List ℕ) (stripped : Option (Bor (List ℕ))) (whole : Bor (List ℕ))
+pub without_carriage_return-stripped : (line : List ℕ) (stripped : Option (Bor (List ℕ))) (whole : Bor (List ℕ))
     → whole.now ≡ line
     → MatchOption stripped (pointwise nat_eq (drop (length line - 1) line) (13 ∷ []) ≡ false)
     (λ x. (pointwise nat_eq (drop (length line - 1) line) (13 ∷ []) ≡ true) × (x.now ≡ take (length line - 1) line)
     × (length x.now + 1 ≡ length line))
-    → (unwrap_or stripped whole).now ≡ without_return line
-without_return-stripped line None whole same without =
-    same ∙ sym (without_return-cond line ∙ cond-false _ _ _ (sym (ends-return line) ∙ without))
-without_return-stripped line (Some x) whole same found =
-    found.1 ∙ sym (without_return-cond line ∙ cond-true _ _ _ (sym (ends-return line) ∙ found.0))
+    → (unwrap_or stripped whole).now ≡ without_carriage_return line
+without_carriage_return-stripped line None whole same without =
+    same ∙ sym (without_carriage_return-cond line ∙ cond-false _ _ _ (sym (ends-return line) ∙ without))
+without_carriage_return-stripped line (Some x) whole same found =
+    found.1 ∙ sym (without_carriage_return-cond line ∙ cond-true _ _ _ (sym (ends-return line) ∙ found.0))

@@ -11,7 +11,7 @@ use Rattle.std.proofs.lemmas.Str.Ascii.{IsAscii-cons, IsAscii-from_all, IsAscii-
 use Rattle.hex.specs.Hex.{encode_lower, lower_digits}
 use Rattle.hex.proofs.HexLemmas.{IsAscii-encode_with}
 use Rattle.b3_lines.specs.Names.{escape, escaped}
-use Rattle.b3_lines.specs.Writing.{closing, is_marked, mark, plain_text, shown, spaces, tag, tagged_text}
+use Rattle.b3_lines.specs.Writing.{is_marked, mark, plain_text, shown, spaces, tag_prefix, tag_separator, tagged_text}
 use Rattle.b3_lines.proofs.Escapes.{escaped-append, escaped-ascii, escaped-cons, escaped-nil, escaped-none}
 
 -- the bytes of a character that is not ASCII are not escaped
@@ -88,9 +88,9 @@ IsUtf8-plain digest name utf8 =
 pub IsUtf8-tagged : (digest name : List ℕ) → IsUtf8 name → IsUtf8 (tagged_text digest name)
 unfolding tagged_text
 IsUtf8-tagged digest name utf8 =
-    let begun = IsUtf8-append _ _ (IsUtf8-mark name) (IsUtf8-from_ascii tag (IsAscii-all tag refl)) in
+    let begun = IsUtf8-append _ _ (IsUtf8-mark name) (IsUtf8-from_ascii tag_prefix (IsAscii-all tag_prefix refl)) in
     let named = IsUtf8-append _ _ begun (IsUtf8-escaped name utf8) in
-    let closed = IsUtf8-append _ _ named (IsUtf8-from_ascii closing (IsAscii-all closing refl)) in
+    let closed = IsUtf8-append _ _ named (IsUtf8-from_ascii tag_separator (IsAscii-all tag_separator refl)) in
     IsUtf8-append _ _ closed (IsUtf8-encode_lower digest)
 
 -- a shown form is text

@@ -2,7 +2,7 @@
 use Rattle.std.proofs.Common.{◌≡◌, ℕ, ◌/◌, ◌%◌, List, [], ◌∷◌, ◌++◌, slice_index, refl, sym, ap, ◌∙◌, append_assoc}
 use Rattle.hex.specs.Hex.{encode_lower, encode_with, lower_digits}
 use Rattle.b3_lines.specs.Names.{escaped}
-use Rattle.b3_lines.specs.Writing.{closing, mark, plain, plain_text, spaces, tag, tagged, tagged_text}
+use Rattle.b3_lines.specs.Writing.{mark, plain, plain_text, spaces, tag_prefix, tag_separator, tagged, tagged_text}
 
 -- the digits of two pieces
 encode_with-append : (t xs ys : List ℕ) → encode_with t (xs ++ ys) ≡ encode_with t xs ++ encode_with t ys
@@ -31,14 +31,14 @@ pub plain-written : (digest name line₁ line₂ line₃ line₄ line₅ : List 
     → line₅ ≡ line₄ ++ 10 ∷ []
     → line₅ ≡ plain digest name
 unfolding plain_text
-plain-written digest name line₁ line₂ line₃ line₄ line₅ marked digits gap named ended =
-    rw (ended, named, gap, digits, marked) refl
+plain-written digest name line₁ line₂ line₃ line₄ line₅ marked digits gap named terminated =
+    rw (terminated, named, gap, digits, marked) refl
 
 -- and those of a tagged one
 pub tagged-written : (digest name line₁ line₂ line₃ line₄ line₅ line₆ : List ℕ) → line₁ ≡ mark name
-    → line₂ ≡ line₁ ++ tag → line₃ ≡ line₂ ++ escaped name → line₄ ≡ line₃ ++ closing
+    → line₂ ≡ line₁ ++ tag_prefix → line₃ ≡ line₂ ++ escaped name → line₄ ≡ line₃ ++ tag_separator
     → line₅ ≡ line₄ ++ encode_lower digest → line₆ ≡ line₅ ++ 10 ∷ []
     → line₆ ≡ tagged digest name
 unfolding tagged_text
-tagged-written digest name line₁ line₂ line₃ line₄ line₅ line₆ marked begun named closed digits ended =
-    rw (ended, digits, closed, named, begun, marked) refl
+tagged-written digest name line₁ line₂ line₃ line₄ line₅ line₆ marked begun named closed digits terminated =
+    rw (terminated, digits, closed, named, begun, marked) refl

@@ -1,6 +1,8 @@
-pub mod Lines
+-- check lines, which are no part of the BLAKE3 standard: names, lines written and lines read
 pub mod Names
-pub mod Parts
-pub mod Reading
-pub mod Reasons
 pub mod Writing
+pub mod Reading
+pub mod Lines
+pub mod Reasons
+-- for private contracts alone
+pub mod Parts

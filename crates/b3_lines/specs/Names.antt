@@ -46,15 +46,15 @@ abbrev pub Spells : List ℕ → List ℕ → Type 0
 Spells text name = (pieces : List Piece) × (text ≡ flat_map spelling pieces) × (name ≡ map meaning pieces)
 
 -- whether `\`, `n` or `r`, which may follow a `\`
-abbrev pub ends_escape : ℕ → Bool
-ends_escape c = c == 92 || c == 110 || c == 114
+abbrev pub may_follow_backslash : ℕ → Bool
+may_follow_backslash c = c == 92 || c == 110 || c == 114
 
 -- whether, read from the left, a `\` is followed by none of `\`, `n` and `r`
 unfoldable pub has_bad_escape : List ℕ → Bool
 has_bad_escape [] = false
 has_bad_escape (b ∷ []) = b == 92
 has_bad_escape (b ∷ c ∷ text) =
-    if b == 92 then not (ends_escape c) || has_bad_escape text
+    if b == 92 then not (may_follow_backslash c) || has_bad_escape text
     else has_bad_escape (c ∷ text)
 
 -- what `\` and this character stand for
@@ -70,14 +70,15 @@ unescaped (b ∷ c ∷ text) =
     else b ∷ unescaped (c ∷ text)
 
 -- U+FFFD in UTF-8
-abbrev pub replacement : List ℕ
-replacement = 0xEF ∷ 0xBF ∷ 0xBD ∷ []
+abbrev pub replacement_character : List ℕ
+replacement_character = 0xEF ∷ 0xBF ∷ 0xBD ∷ []
 
 -- whether U+FFFD stands in the text
-unfoldable pub holds_replacement : List ℕ → Bool
-holds_replacement [] = false
-holds_replacement (b ∷ text) = starts_with nat_eq (b ∷ text) replacement || holds_replacement text
+unfoldable pub holds_replacement_character : List ℕ → Bool
+holds_replacement_character [] = false
+holds_replacement_character (b ∷ text) = starts_with nat_eq (b ∷ text) replacement_character
+    || holds_replacement_character text
 
 -- whether NUL or U+FFFD stands in the text
 unfoldable pub holds_bad_character : List ℕ → Bool
-holds_bad_character text = list_any (λ b. b == 0) text || holds_replacement text
+holds_bad_character text = list_any (λ b. b == 0) text || holds_replacement_character text

@@ -29,16 +29,16 @@ abbrev pub plain : List ℕ → List ℕ → List ℕ
 plain digest name = plain_text digest name ++ 10 ∷ []
 
 -- what a tagged line begins with, after its mark
-abbrev pub tag : List ℕ
-tag = codes "BLAKE3 ("
+abbrev pub tag_prefix : List ℕ
+tag_prefix = codes "BLAKE3 ("
 
 -- what stands between the name and the digits of a tagged line
-abbrev pub closing : List ℕ
-closing = codes ") = "
+abbrev pub tag_separator : List ℕ
+tag_separator = codes ") = "
 
 -- a tagged line without its line feed: the mark, `BLAKE3 (`, the escaped name, `) = `, the digits in lower case
 unfoldable pub tagged_text : List ℕ → List ℕ → List ℕ
-tagged_text digest name = mark name ++ tag ++ escaped name ++ closing ++ encode_lower digest
+tagged_text digest name = mark name ++ tag_prefix ++ escaped name ++ tag_separator ++ encode_lower digest
 
 -- a tagged line
 abbrev pub tagged : List ℕ → List ℕ → List ℕ

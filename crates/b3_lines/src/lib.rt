@@ -9,15 +9,15 @@
 #![tactic(auto)]
 
 mod fault;
+mod line_ranges;
 mod names;
-mod places;
 mod reading;
 mod tagging;
 mod writing;
 
 pub use fault::LineFault;
+pub use line_ranges::Lines;
 pub use names::holds_bad_character;
-pub use places::Lines;
 pub use reading::{Line, lines, read_line};
 pub use tagging::write_tagged;
 pub use writing::{shown_name, write_line};

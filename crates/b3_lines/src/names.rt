@@ -3,13 +3,13 @@
 ghost use Rattle.std.specs.Prelude.{◌≡◌, ◌+◌, ◌++◌, false, length, IsTrue, ◌↔◌, OnOk, IfOk, IfSome, IsNone};
 ghost use Rattle.std.specs.String.{string_bytes};
 ghost use Rattle.memchr.specs.Find.{places};
-ghost use Rattle.b3_lines.specs.Names.{ends_escape, escape, escape_meaning, escaped, has_bad_escape, holds_bad_character, is_escaped, unescaped};
+ghost use Rattle.b3_lines.specs.Names.{escape, escape_meaning, escaped, has_bad_escape, holds_bad_character, is_escaped, may_follow_backslash, unescaped};
 
 use memchr::{memchr, memchr3, memchr3_iter, memmem};
 use std::alloc::{AllocError, Global};
 
-/// How many characters of a name are escaped.
-pub(crate) fn count_escaped(name: &[u8]) -> usize
+/// How many characters of a name are to be escaped.
+pub(crate) fn count_to_escape(name: &[u8]) -> usize
     ensures { result ≡ length (places is_escaped name.now) }
 {
     memchr3_iter(b'\\', b'\n', b'\r', name).count()
@@ -41,8 +41,8 @@ pub(crate) fn push_escaped(line: &mut Vec<u8>, name: &[u8]) -> Result<(), AllocE
 }
 
 /// Whether a character may follow a backslash.
-fn ends_escape(character: u8) -> bool
-    ensures { result ≡ ends_escape character }
+fn may_follow_backslash(character: u8) -> bool
+    ensures { result ≡ may_follow_backslash character }
 {
     matches!(character, b'\\' | b'n' | b'r')
 }
@@ -56,7 +56,7 @@ pub(crate) fn count_escapes(text: &[u8]) -> Option<usize>
     let mut count = 0;
     let mut rest = text;
     while let Some(at) = memchr(b'\\', rest) {
-        if at + 1 == rest.len() || !ends_escape(rest[at + 1]) {
+        if at + 1 == rest.len() || !may_follow_backslash(rest[at + 1]) {
             return None;
         }
         count += 1;

@@ -2,14 +2,14 @@
 
 ghost use Rattle.std.specs.Prelude.{◌≡◌, ◌+◌, ◌<◌, ◌≤◌, ◌↔◌, ◌&&◌, Bool, List, ℕ, All, map, Some, None, IsNone, IfSome, IsTrue, true, false, length, IfOk, IfErr, IsErrOf, MatchResult};
 ghost use Rattle.std.specs.String.{string_bytes};
-ghost use Rattle.b3_lines.specs.Lines.{AreLines, IsWithin, line_at, line_places, lines_of};
+ghost use Rattle.b3_lines.specs.Lines.{AreLines, IsWithin, line_at, line_ranges, lines_of};
 ghost use Rattle.b3_lines.specs.Names.{has_bad_escape, unescaped};
-ghost use Rattle.b3_lines.specs.Parts.{AreParts, HasParts, IsCut, shown_of};
-ghost use Rattle.b3_lines.specs.Reading.{HasOneForm, HasOneOutcome, IsReadAs, after_mark, first_refusal, has_mark, is_tagged, layout_of, name_of, plain_layout, refusal_after_mark, refusal_of, tagged_layout, without_return};
+ghost use Rattle.b3_lines.specs.Parts.{AreParts, HasParts, IsCut};
+ghost use Rattle.b3_lines.specs.Reading.{HasOneForm, HasOneOutcome, IsReadAs, after_mark, first_refusal, has_mark, is_tagged, layout_of, name_of, plain_layout, refusal_after_mark, refusal_of, shown_of, tagged_layout, without_carriage_return};
 
 use crate::fault::LineFault;
+use crate::line_ranges::Lines;
 use crate::names::{count_escapes, holds_bad_character, unescaped};
-use crate::places::Lines;
 use hex::FromHex;
 use std::alloc::{AllocError, Global};
 use std::str;
@@ -30,7 +30,7 @@ pub struct Line {
 struct Parts<'a> {
     digest: [u8; 32],
     /// The name as it stands in the line.
-    spelled: &'a str,
+    raw_name: &'a str,
     marked: bool,
     /// How many escapes the name has.
     escapes: usize,
@@ -39,39 +39,39 @@ struct Parts<'a> {
 impl Parts<'_> {
     /// The name, its escapes taken back in a marked line.
     fn name(&self, alloc: Global) -> Result<String, AllocError>
-        requires lawful { IsTrue self.now.marked → has_bad_escape self.now.spelled.now ≡ false }
+        requires lawful { IsTrue self.now.marked → has_bad_escape self.now.raw_name.now ≡ false }
         requires counted { IsTrue self.now.marked →
-            length (unescaped self.now.spelled.now) + self.now.escapes ≡ length self.now.spelled.now }
+            length (unescaped self.now.raw_name.now) + self.now.escapes ≡ length self.now.raw_name.now }
         ensures { IfOk result (λ name.
-            string_bytes name ≡ name_of self.now.marked self.now.spelled.now) }
+            string_bytes name ≡ name_of self.now.marked self.now.raw_name.now) }
     {
         if self.marked {
-            unescaped(alloc, self.spelled, self.escapes)
+            unescaped(alloc, self.raw_name, self.escapes)
         } else {
-            String::from_str(alloc, self.spelled)
+            String::from_str(alloc, self.raw_name)
         }
     }
 
     /// The name as it stands in the line, after the mark of a marked one.
     fn shown(&self, alloc: Global) -> Result<String, AllocError>
         ensures { IfOk result (λ shown.
-            string_bytes shown ≡ shown_of self.now.marked self.now.spelled.now) }
+            string_bytes shown ≡ shown_of self.now.marked self.now.raw_name.now) }
     {
         if !self.marked {
-            return String::from_str(alloc, self.spelled);
+            return String::from_str(alloc, self.raw_name);
         }
-        let mut shown = String::with_capacity(alloc, self.spelled.len().saturating_add(1))?;
+        let mut shown = String::with_capacity(alloc, self.raw_name.len().saturating_add(1))?;
         shown.push('\\')?;
-        shown.push_str(self.spelled)?;
+        shown.push_str(self.raw_name)?;
         Ok(shown)
     }
 }
 
-/// The places of the lines of a text, in order: the pieces between line feeds, without a piece
+/// The ranges of the lines of a text, in order: the pieces between line feeds, without a piece
 /// after a line feed that ends the text. It takes no memory.
 pub fn lines(text: &[u8]) -> Lines<'_>
-    ensures places { result ≡ line_places text.now }
-    // At each place stands its line.
+    ensures ranges { result ≡ line_ranges text.now }
+    // Each range holds its line.
     ensures lines { map (line_at text.now) result ≡ lines_of text.now }
     ensures within { All (IsWithin text.now) result }
     ensures count { length result ≤ length text.now }
@@ -122,7 +122,7 @@ pub fn read_line(alloc: Global, line: &[u8]) -> Result<Line, LineFault>
     // It is plain or tagged, and never both.
     ensures one_form { HasOneForm line.now }
 {
-    let parts = accepted(line)?;
+    let parts = parse_line(line)?;
     let name = parts.name(alloc)?;
     let shown = parts.shown(alloc)?;
     Ok(Line {
@@ -134,12 +134,12 @@ pub fn read_line(alloc: Global, line: &[u8]) -> Result<Line, LineFault>
 
 /// The parts of the line, or the first refusal that holds, in the order of the numbers of `LineFault`, which decide. It
 /// takes no memory.
-fn accepted(line: &[u8]) -> Result<Parts<'_>, LineFault>
+fn parse_line(line: &[u8]) -> Result<Parts<'_>, LineFault>
     ensures refused { IfErr result (λ fault. first_refusal line.now ≡ Some fault) }
     ensures taken { IfOk result (λ parts.
-        HasParts line.now parts.digest parts.spelled.now parts.marked parts.escapes) }
+        HasParts line.now parts.digest parts.raw_name.now parts.marked parts.escapes) }
 {
-    let text = without_return(line);
+    let text = without_carriage_return(line);
     if text.is_empty() {
         return Err(LineFault::Empty);
     }
@@ -147,12 +147,12 @@ fn accepted(line: &[u8]) -> Result<Parts<'_>, LineFault>
         return Err(LineFault::NotText);
     };
     let (marked, rest) = after_mark(text);
-    parts_after_mark(marked, rest)
+    parse_after_mark(marked, rest)
 }
 
 /// The line without the carriage return at its very end, where it has one.
-fn without_return(line: &[u8]) -> &[u8]
-    ensures { result.now ≡ without_return line.now }
+fn without_carriage_return(line: &[u8]) -> &[u8]
+    ensures { result.now ≡ without_carriage_return line.now }
 {
     line.strip_suffix(b"\r").unwrap_or(line)
 }
@@ -174,30 +174,30 @@ fn after_mark(text: &str) -> (bool, &str)
 #[derive(Drop)]
 struct Cut<'a> {
     digest: [u8; 32],
-    spelled: &'a str,
+    raw_name: &'a str,
 }
 
 /// The parts of what follows the mark, or the first refusal that holds of it.
-fn parts_after_mark(marked: bool, rest: &str) -> Result<Parts<'_>, LineFault>
+fn parse_after_mark(marked: bool, rest: &str) -> Result<Parts<'_>, LineFault>
     ensures refused { IfErr result (λ fault. refusal_after_mark marked rest.now ≡ Some fault) }
     ensures mark { IfOk result (λ parts. parts.marked ≡ marked) }
     ensures taken { IfOk result (λ parts.
-        AreParts marked rest.now parts.digest parts.spelled.now parts.escapes) }
+        AreParts marked rest.now parts.digest parts.raw_name.now parts.escapes) }
 {
     let cut = cut_up(rest)?;
-    let spelled = cut.spelled;
-    if spelled.is_empty() {
+    let raw_name = cut.raw_name;
+    if raw_name.is_empty() {
         return Err(LineFault::NoName);
     }
-    let Some(escapes) = escapes_of(marked, spelled.as_bytes()) else {
+    let Some(escapes) = escapes_of(marked, raw_name.as_bytes()) else {
         return Err(LineFault::BadEscape);
     };
-    if holds_bad_character(spelled.as_bytes()) {
+    if holds_bad_character(raw_name.as_bytes()) {
         return Err(LineFault::BadCharacter);
     }
     Ok(Parts {
         digest: cut.digest,
-        spelled,
+        raw_name,
         marked,
         escapes,
     })
@@ -206,7 +206,7 @@ fn parts_after_mark(marked: bool, rest: &str) -> Result<Parts<'_>, LineFault>
 /// What follows the mark, cut up as it begins, or the first refusal of all but those of the name.
 fn cut_up(rest: &str) -> Result<Cut<'_>, LineFault>
     ensures refused { IfErr result (λ fault. (marked : Bool) → refusal_of marked (layout_of rest.now) ≡ Some fault) }
-    ensures taken { IfOk result (λ cut. IsCut (layout_of rest.now) cut.digest cut.spelled.now) }
+    ensures taken { IfOk result (λ cut. IsCut (layout_of rest.now) cut.digest cut.raw_name.now) }
 {
     if rest.as_bytes().starts_with(b"BLAKE3 (") {
         cut_tagged(rest)
@@ -218,7 +218,7 @@ fn cut_up(rest: &str) -> Result<Cut<'_>, LineFault>
 /// What follows the mark of a plain line, cut up.
 fn cut_plain(rest: &str) -> Result<Cut<'_>, LineFault>
     ensures refused { IfErr result (λ fault. (marked : Bool) → refusal_of marked (plain_layout rest.now) ≡ Some fault) }
-    ensures taken { IfOk result (λ cut. IsCut (plain_layout rest.now) cut.digest cut.spelled.now) }
+    ensures taken { IfOk result (λ cut. IsCut (plain_layout rest.now) cut.digest cut.raw_name.now) }
 {
     let bytes = rest.as_bytes();
     if bytes.len() < 66 {
@@ -230,8 +230,8 @@ fn cut_plain(rest: &str) -> Result<Cut<'_>, LineFault>
     if &bytes[64..66] != b"  ".as_slice() {
         return Err(LineFault::NoSpaces);
     }
-    let spelled = &rest[66..];
-    Ok(Cut { digest, spelled })
+    let raw_name = &rest[66..];
+    Ok(Cut { digest, raw_name })
 }
 
 /// What follows the mark of a tagged line, cut up from its end.
@@ -239,7 +239,7 @@ fn cut_tagged(rest: &str) -> Result<Cut<'_>, LineFault>
     requires { is_tagged rest.now ≡ true }
     ensures refused { IfErr result (λ fault. (marked : Bool)
         → refusal_of marked (tagged_layout rest.now) ≡ Some fault) }
-    ensures taken { IfOk result (λ cut. IsCut (tagged_layout rest.now) cut.digest cut.spelled.now) }
+    ensures taken { IfOk result (λ cut. IsCut (tagged_layout rest.now) cut.digest cut.raw_name.now) }
 {
     let bytes = rest.as_bytes();
     if bytes.len() < 76 {
@@ -252,8 +252,8 @@ fn cut_tagged(rest: &str) -> Result<Cut<'_>, LineFault>
     if &bytes[start - 4..start] != b") = ".as_slice() {
         return Err(LineFault::NoSpaces);
     }
-    let spelled = &rest[8..start - 4];
-    Ok(Cut { digest, spelled })
+    let raw_name = &rest[8..start - 4];
+    Ok(Cut { digest, raw_name })
 }
 
 /// How many escapes the name of a line has: none where the line is not marked. `None` where a

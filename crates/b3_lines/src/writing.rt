@@ -9,7 +9,7 @@ ghost use Rattle.b3_lines.specs.Reading.{Reads};
 ghost use Rattle.b3_lines.specs.Writing.{mark, plain, plain_text, shown};
 
 use crate::fault::LineFault;
-use crate::names::{count_escaped, holds_bad_character, push_escaped};
+use crate::names::{count_to_escape, holds_bad_character, push_escaped};
 use std::alloc::{AllocError, Global};
 
 /// How many bytes a plain line has beside its mark, its digits and its name.
@@ -66,7 +66,7 @@ pub(crate) fn begin_line(
     if holds_bad_character(name) {
         return Err(LineFault::BadCharacter);
     }
-    let escapes = count_escaped(name);
+    let escapes = count_to_escape(name);
     let mut line = Vec::with_capacity(alloc, line_length(digest, name, escapes, around))?;
     push_mark(&mut line, escapes != 0)?;
     Ok(line)
@@ -117,7 +117,7 @@ pub fn shown_name(alloc: Global, name: &str) -> Result<String, LineFault>
     ensures shown { IfOk result (λ text. string_bytes text ≡ shown name.now) }
     ensures refused { IfErr result (λ fault. fault ≡ LineFault.Memory) }
 {
-    let escapes = count_escaped(name.as_bytes());
+    let escapes = count_to_escape(name.as_bytes());
     if escapes == 0 {
         return Ok(String::from_str(alloc, name)?);
     }

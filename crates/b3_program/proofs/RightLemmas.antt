@@ -2,7 +2,8 @@
 use Rattle.std.proofs.Common.{◌≡◌, ℕ, Bool, true, false, List, Some, Result, Ok, Err, refl, sym, ◌∙◌, arith, inl, inr, map, string_bytes}
 use Rattle.b3_check.specs.Contents.{Contents}
 use Rattle.b3_check.specs.Options.{check_limits, limits_of}
-use Rattle.b3_check.specs.Runs.{Runs, Scene, Sheet}
+use Rattle.b3_check.specs.Runs.{IoState, SinkState}
+use Rattle.b3_check.specs.Devices.{Runs}
 use Rattle.b3_check.specs.Sinks.{GainsBeginning}
 use Rattle.b3_check.specs.declared.fault.RunFault.{RunFault}
 use Rattle.b3_check.specs.declared.tally.Tally.{Tally}
@@ -15,14 +16,14 @@ use Rattle.b3_program.specs.declared.task.Task.{Task}
 use Rattle.b3_program.specs.declared.task.Task.TheVariants.{Sum, Check}
 
 -- a text that is said, or a beginning of it
-GainsBeginning-said : (before after : Sheet) (text : List ℕ) (whole : Bool) → IsSaid before after text whole
+GainsBeginning-said : (before after : SinkState) (text : List ℕ) (whole : Bool) → IsSaid before after text whole
     → GainsBeginning before.held after.held text
 GainsBeginning-said before after text true said =
     GainsBeginning-all before.held after.held text (said.all refl)
 GainsBeginning-said before after text false said = said.part refl
 
 -- the run of a task writes rightly
-DoesRightly-from_run : (contents : Contents) (task : Task) (before after : Scene) (result : Result Tally RunFault)
+DoesRightly-from_run : (contents : Contents) (task : Task) (before after : IoState) (result : Result Tally RunFault)
     → before.told ≡ Some contents → Runs (limits_for task) (script_of task) before after result
     → DoesRightly contents task before.out.held after.out.held before.err.held after.err.held result
 DoesRightly-from_run contents (Sum options files) before after result told run =
@@ -32,7 +33,7 @@ DoesRightly-from_run contents (Check options files) before after result told run
     ChecksRightly-from_run (check_limits options) before after result contents options
     (names_of (map string_bytes files.items)) told run
 
-pub EndsRightly-from_done : (contents : Contents) (task : Task) (before after : Scene) (status : ℕ)
+pub EndsRightly-from_done : (contents : Contents) (task : Task) (before after : IoState) (status : ℕ)
     → before.told ≡ Some contents → DoesTask task before after status
     → EndsRightly contents task before.out.held after.out.held before.err.held after.err.held status
 EndsRightly-from_done contents task before after status told done = elim done [
@@ -51,7 +52,7 @@ EndsRightly-from_done contents task before after status told done = elim done [
 ]
 
 -- where the status is 0, the task is done wholly
-pub IsDone-from_done : (contents : Contents) (task : Task) (before after : Scene) (status : ℕ)
+pub IsDone-from_done : (contents : Contents) (task : Task) (before after : IoState) (status : ℕ)
     → before.told ≡ Some contents → DoesTask task before after status → status ≡ 0
     → IsDone contents task before.out.held after.out.held before.err.held after.err.held
 IsDone-from_done contents (Sum options files) before after status told done passed = elim done [

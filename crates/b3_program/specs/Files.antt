@@ -1,77 +1,16 @@
--- What a shelf of files reads, and what it tells.
-use Rattle.std.specs.Prelude.{ℕ, ◌+◌, ◌&&◌, Bool, true, false, if◌then◌else◌, List, [], drop, Option, None, Some, bytes_eq, codes}
-use Rattle.b3_check.specs.Contents.{Contents}
-use Rattle.b3_program.specs.declared.input.InputFile.{InputFile}
-use Rattle.b3_program.specs.declared.source.Source.{Source}
-use Rattle.b3_program.specs.declared.source.Source.TheVariants.{Nothing, Input, Reopened, Opened}
-
--- whether a file is begun
-abbrev pub is_open : {T I P : Type 0} → Source T I P → Bool
-is_open Nothing = false
-is_open (Input input) = true
-is_open (Reopened reopened) = true
-is_open (Opened file) = true
-
--- whether it is the input
-abbrev pub is_input : {T I P : Type 0} → Source T I P → Bool
-is_input Nothing = false
-is_input (Input input) = true
-is_input (Reopened reopened) = true
-is_input (Opened file) = false
-
--- whether it tells its bytes, where files, inputs and the plain files of inputs do or do not
-abbrev pub source_tells : {T I P : Type 0} → Bool → Bool → Bool → Source T I P → Bool
-source_tells file input input_file Nothing = true
-source_tells file input input_file (Input stream) = input
-source_tells file input input_file (Reopened reopened) = input && input_file
-source_tells file input input_file (Opened opened) = file
+-- What a shelf of files tells.
+use Rattle.std.specs.Prelude.{ℕ, Bool, true, false, if◌then◌else◌, List, drop, Option, None, Some, bytes_eq}
+use Rattle.b3_check.specs.Contents.{Contents, input_name}
 
 -- what is left of a stream
 abbrev pub rest_of : {T : Type 0} → (T → List ℕ) → (T → ℕ) → T → List ℕ
 rest_of content position stream = drop (position stream) (content stream)
-
--- what is left of the plain file that an input is, of which so many bytes were given
-abbrev pub file_rest : {I P : Type 0} → (P → List ℕ) → InputFile I P → ℕ → List ℕ
-file_rest content input_file given = drop (input_file.start + given) (content input_file.file)
-
--- what is left of the file that is begun, of which so many bytes were given
-abbrev pub source_left : {T I P : Type 0} → (T → List ℕ) → (I → List ℕ) → (I → ℕ) → (P → List ℕ) → Source T I P → ℕ
-    → List ℕ
-source_left file input position input_file Nothing given = []
-source_left file input position input_file (Input stream) given = rest_of input position stream
-source_left file input position input_file (Reopened reopened) given = file_rest input_file reopened given
-source_left file input position input_file (Opened opened) given = drop given (file opened)
-
--- the offset at which an open file stands; where none is, the one that is given
-abbrev pub source_position : {T I P : Type 0} → (T → ℕ) → Source T I P → ℕ → ℕ
-source_position position Nothing given = given
-source_position position (Input input) given = given
-source_position position (Reopened reopened) given = given
-source_position position (Opened file) given = position file
-
--- what is left of the plain file that the input is, as the input has it: as long as both were read alike
-abbrev pub input_rest : {I P : Type 0} → (I → List ℕ) → (I → ℕ) → (P → List ℕ) → InputFile I P → ℕ → List ℕ
-input_rest content position file reopened given =
-    if reopened.is_in_step then rest_of content position reopened.input else file_rest file reopened given
-
--- the same of what is begun; nothing of what is no such file
-abbrev pub input_side : {T I P : Type 0} → (I → List ℕ) → (I → ℕ) → (P → List ℕ) → Source T I P → ℕ → List ℕ
-input_side content position file Nothing given = []
-input_side content position file (Input input) given = []
-input_side content position file (Reopened reopened) given = input_rest content position file reopened given
-input_side content position file (Opened opened) given = []
-
-abbrev pub file_side : {T I P : Type 0} → (P → List ℕ) → Source T I P → ℕ → List ℕ
-file_side file Nothing given = []
-file_side file (Input input) given = []
-file_side file (Reopened reopened) given = file_rest file reopened given
-file_side file (Opened opened) given = []
 
 -- contents, where they are told
 abbrev pub told_if : Bool → Contents → Option Contents
 told_if true contents = Some contents
 told_if false contents = None
 
--- the contents of a disk, with an input under the name `-`
+-- the contents of a disk, with an input under its name
 abbrev pub contents_with : Contents → List ℕ → Contents
-contents_with contents input name = if bytes_eq name (codes "-") then Some input else contents name
+contents_with contents input name = if bytes_eq name input_name then Some input else contents name

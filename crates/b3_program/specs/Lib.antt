@@ -1,5 +1,6 @@
 pub mod Disks
 pub mod Files
+pub mod Sources
 pub mod MemoryDisks
 pub mod Usages
 pub mod Tasks

@@ -1,29 +1,29 @@
 -- What a call of the program does, from its words on.
-use Rattle.std.specs.Prelude.{◌≡◌, ◌⊎◌, ◌^◌, ◌≤◌, ℕ, List, [], ◌∷◌, All, Bool, Option, None, Some, Result, MatchResult, codes, length, map, string_bytes}
+use Rattle.std.specs.Prelude.{◌≡◌, ◌⊎◌, ◌^◌, ◌≤◌, ℕ, List, [], ◌∷◌, All, Bool, Option, None, Some, Result, MatchResult, length, map, string_bytes}
 use Rattle.b3_check.specs.declared.fault.RunFault.{RunFault}
 use Rattle.b3_check.specs.declared.options.Form.TheVariants.{Raw}
 use Rattle.b3_check.specs.declared.options.Limits.{Limits}
 use Rattle.b3_check.specs.declared.tally.Tally.{Tally}
 use Rattle.b3_check.specs.Checks.{check_script}
-use Rattle.b3_check.specs.Contents.{Contents}
+use Rattle.b3_check.specs.Contents.{Contents, input_name}
 use Rattle.b3_check.specs.Faults.{fault_text}
 use Rattle.b3_check.specs.Laws.{ChecksRightly, ListIsVerified, SumsRightly, WritesAll}
 use Rattle.b3_check.specs.Options.{CanCheck, CanRun, check_limits, limits_of}
-use Rattle.b3_check.specs.Runs.{Ran, RanSurely, Scene, Sheet, Stopped}
+use Rattle.b3_check.specs.Runs.{Ran, RanSurely, IoState, SinkState, Stopped}
 use Rattle.b3_check.specs.Scripts.{Script}
 use Rattle.b3_check.specs.Sinks.{GainsBeginning}
 use Rattle.b3_check.specs.Sums.{sum_script}
 use Rattle.b3_check.specs.Tallies.{status_of}
 use Rattle.b3_program.specs.Said.{IsSaid, line_of}
 use Rattle.b3_program.specs.Tasks.{task_for}
-use Rattle.b3_program.specs.Usages.{Refusal, refusal_for, refusal_text}
+use Rattle.b3_program.specs.Usages.{refusal_for}
 use Rattle.b3_program.specs.declared.task.Task.{Task}
 use Rattle.b3_program.specs.declared.task.Task.TheVariants.{Sum, Check}
 use Rattle.b3_program.specs.declared.words.Words.{Words}
 
 -- the names that are read: the files, or standard input where there are none
 abbrev pub names_of : List (List ℕ) → List (List ℕ)
-names_of [] = codes "-" ∷ []
+names_of [] = input_name ∷ []
 names_of (file ∷ files) = file ∷ files
 
 -- the script of a task
@@ -42,44 +42,44 @@ CanDo (Sum options files) =
     × (options.form ≡ Raw → length (names_of (map string_bytes files.items)) ≡ 1)
 CanDo (Check options files) = CanCheck options × (length files.items ≤ 2 ^ 30)
 
--- the scene, but with another error output
-abbrev pub with_err : Scene → Sheet → Scene
-with_err scene err = record scene { err = err }
+-- the same state, but with another error output
+abbrev pub with_err : IoState → SinkState → IoState
+with_err io_state err = record io_state { err = err }
 
--- the words are refused: that is said, and nothing else is done
-pub record EndsRefused (refusal : Refusal) (before after : Scene) (status : ℕ) : Type 0 where
+-- the words are refused: this is said, and nothing else is done
+pub record EndsRefused (text : List ℕ) (before after : IoState) (status : ℕ) : Type 0 where
   pub whole : Bool
-  pub said : IsSaid before.err after.err (line_of (refusal_text refusal)) whole
+  pub said : IsSaid before.err after.err (line_of text) whole
   pub kept : with_err after before.err ≡ before
   pub status_is : status ≡ 2
 
 -- the run went to its end, and the status is that of its tally
-pub record EndsWell (script : Script) (before after : Scene) (status : ℕ) : Type 0 where
+pub record EndsWell (script : Script) (before after : IoState) (status : ℕ) : Type 0 where
   pub tally : Tally
   pub ran : Ran script before after tally
   pub surely : RanSurely script before after tally
   pub status_is : status ≡ status_of tally
 
 -- the run stopped at a fault, then its line was said, and the status is 1
-pub record EndsAtFault (limits : Limits) (script : Script) (before after : Scene) (status : ℕ) : Type 0 where
+pub record EndsAtFault (limits : Limits) (script : Script) (before after : IoState) (status : ℕ) : Type 0 where
   pub fault : RunFault
-  pub err : Sheet
+  pub err : SinkState
   pub whole : Bool
   pub stopped : Stopped limits script before (with_err after err) fault
   pub said : IsSaid err after.err (line_of (fault_text fault)) whole
   pub status_is : status ≡ 1
 
 -- a task is done, to its end or to a fault
-abbrev pub DoesTask : Task → Scene → Scene → ℕ → Type 0
+abbrev pub DoesTask : Task → IoState → IoState → ℕ → Type 0
 DoesTask task before after status =
     EndsWell (script_of task) before after status ⊎ EndsAtFault (limits_for task) (script_of task) before after status
 
 -- the words are refused, or their task is done
-abbrev pub EndsAs : Option Refusal → Task → Scene → Scene → ℕ → Type 0
+abbrev pub EndsAs : Option (List ℕ) → Task → IoState → IoState → ℕ → Type 0
 EndsAs None task = DoesTask task
-EndsAs (Some refusal) task = EndsRefused refusal
+EndsAs (Some text) task = EndsRefused text
 
-abbrev pub Ends : Words → Scene → Scene → ℕ → Type 0
+abbrev pub Ends : Words → IoState → IoState → ℕ → Type 0
 Ends words = EndsAs (refusal_for words) (task_for words)
 
 -- ---- over a shelf that tells its contents, in a user's words

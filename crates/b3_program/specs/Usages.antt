@@ -1,52 +1,34 @@
--- Why the words of a call ask for nothing that can be done.
+-- Which words of a call ask for nothing that can be done, and what is said of them: the first refusal that holds.
 use Rattle.std.specs.Prelude.{ℕ, ◌+◌, ◌-◌, ◌^◌, List, [], ◌∷◌, ◌++◌, Bool, ◌&&◌, ◌||◌, ◌==◌, not, nat_lt, bytes_eq, Option, None, Some, is_some, unwrap_or, if◌then◌else◌, codes, String, string_bytes, vec_len}
 use Rattle.std.specs.Global.{Global}
 use Rattle.std.specs.List.{list_any}
 use Rattle.std.specs.Option.{option_map}
+use Rattle.b3_check.specs.Contents.{input_name}
+use Rattle.b3_check.specs.Faults.{prefix}
 use Rattle.b3_program.specs.declared.usage.Usage.{Usage}
 use Rattle.b3_program.specs.declared.usage.Usage.TheVariants.{CheckExcludes, TwoKeys, QuietAlone, RawOne, KeyNeedsFiles, TagExcludes, SeekPastEnd, IgnoreMissingAlone, StatusAlone, StrictAlone, WarnAlone}
 use Rattle.b3_program.specs.declared.words.Words.{Words}
 
--- a refusal, with the name of the option that a check excludes
-pub data Refusal : Type 0 where
-  CheckExcluded : List ℕ → Refusal
-  KeyedTwice : Refusal
-  QuietWithoutCheck : Refusal
-  RawOfMany : Refusal
-  KeyedWithoutFiles : Refusal
-  TagExcluded : List ℕ → Refusal
-  PastEnd : Refusal
-  IgnoreMissingWithoutCheck : Refusal
-  StatusWithoutCheck : Refusal
-  StrictWithoutCheck : Refusal
-  WarnWithoutCheck : Refusal
+-- what is said of an option that a check excludes, and of one that tagged lines exclude, without a line feed
+abbrev pub check_excludes : List ℕ → List ℕ
+check_excludes option = prefix ++ codes "--check cannot be used with " ++ option
 
-abbrev pub refusal_of : Usage → Refusal
-refusal_of (CheckExcludes option) = CheckExcluded option.now
-refusal_of TwoKeys = KeyedTwice
-refusal_of QuietAlone = QuietWithoutCheck
-refusal_of RawOne = RawOfMany
-refusal_of KeyNeedsFiles = KeyedWithoutFiles
-refusal_of (TagExcludes option) = TagExcluded option.now
-refusal_of SeekPastEnd = PastEnd
-refusal_of IgnoreMissingAlone = IgnoreMissingWithoutCheck
-refusal_of StatusAlone = StatusWithoutCheck
-refusal_of StrictAlone = StrictWithoutCheck
-refusal_of WarnAlone = WarnWithoutCheck
+abbrev pub tag_excludes : List ℕ → List ℕ
+tag_excludes option = prefix ++ codes "--tag cannot be used with " ++ option
 
--- the text of a refusal, without a line feed
-abbrev pub refusal_text : Refusal → List ℕ
-refusal_text (CheckExcluded option) = codes "b3sum: --check cannot be used with " ++ option
-refusal_text KeyedTwice = codes "b3sum: --keyed cannot be used with --derive-key"
-refusal_text QuietWithoutCheck = codes "b3sum: --quiet needs --check"
-refusal_text RawOfMany = codes "b3sum: --raw takes one input"
-refusal_text KeyedWithoutFiles = codes "b3sum: --keyed needs files"
-refusal_text (TagExcluded option) = codes "b3sum: --tag cannot be used with " ++ option
-refusal_text PastEnd = codes "b3sum: --seek and --length pass the end of the output"
-refusal_text IgnoreMissingWithoutCheck = codes "b3sum: --ignore-missing needs --check"
-refusal_text StatusWithoutCheck = codes "b3sum: --status needs --check"
-refusal_text StrictWithoutCheck = codes "b3sum: --strict needs --check"
-refusal_text WarnWithoutCheck = codes "b3sum: --warn needs --check"
+-- what is said of a refusal, without a line feed
+abbrev pub usage_text : Usage → List ℕ
+usage_text (CheckExcludes option) = check_excludes option.now
+usage_text TwoKeys = prefix ++ codes "--keyed cannot be used with --derive-key"
+usage_text QuietAlone = prefix ++ codes "--quiet needs --check"
+usage_text RawOne = prefix ++ codes "--raw takes one input"
+usage_text KeyNeedsFiles = prefix ++ codes "--keyed needs files"
+usage_text (TagExcludes option) = tag_excludes option.now
+usage_text SeekPastEnd = prefix ++ codes "--seek and --length pass the end of the output"
+usage_text IgnoreMissingAlone = prefix ++ codes "--ignore-missing needs --check"
+usage_text StatusAlone = prefix ++ codes "--status needs --check"
+usage_text StrictAlone = prefix ++ codes "--strict needs --check"
+usage_text WarnAlone = prefix ++ codes "--warn needs --check"
 
 -- the options that a check excludes, and whether each is given
 abbrev pub excluded_by_check : Words → List (Bool × List ℕ)
@@ -71,7 +53,7 @@ first_given (option ∷ options) = if option.0 then Some option.1 else first_giv
 
 -- whether a file is standard input
 abbrev pub is_input : String Global → Bool
-is_input file = bytes_eq (string_bytes file) (codes "-")
+is_input file = bytes_eq (string_bytes file) input_name
 
 -- whether standard input is to be hashed: it is named, or nothing is
 abbrev pub hashes_input : Words → Bool
@@ -82,31 +64,31 @@ hashes_input words =
 abbrev pub seeks_past_end : Words → Bool
 seeks_past_end words = nat_lt (2 ^ 64 - 1) (unwrap_or words.seek 0 + unwrap_or words.length 32)
 
--- the first refusal that holds of words for a check, where nothing is checked
-abbrev pub refusal_without_check : Words → Option Refusal
+-- what is said of words for a check, where nothing is checked
+abbrev pub refusal_without_check : Words → Option (List ℕ)
 refusal_without_check words =
-    if words.ignore_missing then Some IgnoreMissingWithoutCheck
-    else if words.status then Some StatusWithoutCheck
-    else if words.strict then Some StrictWithoutCheck
-    else if words.warn then Some WarnWithoutCheck
+    if words.ignore_missing then Some (usage_text IgnoreMissingAlone)
+    else if words.status then Some (usage_text StatusAlone)
+    else if words.strict then Some (usage_text StrictAlone)
+    else if words.warn then Some (usage_text WarnAlone)
     else None
 
--- the first refusal that holds of what is to be written, and of words that only a check takes
-abbrev pub refusal_for_output : Words → Option Refusal
+-- what is said of words that ask for no output, and of words that only a check takes
+abbrev pub refusal_for_output : Words → Option (List ℕ)
 refusal_for_output words =
     if words.tag && is_some (first_given (excluded_by_tag words))
-    then option_map TagExcluded (first_given (excluded_by_tag words))
-    else if seeks_past_end words then Some PastEnd
+    then option_map tag_excludes (first_given (excluded_by_tag words))
+    else if seeks_past_end words then Some (usage_text SeekPastEnd)
     else if words.check then None
     else refusal_without_check words
 
--- the first refusal that holds of the words
-abbrev pub refusal_for : Words → Option Refusal
+-- what is said of the first refusal that holds of the words
+abbrev pub refusal_for : Words → Option (List ℕ)
 refusal_for words =
     if words.check && is_some (first_given (excluded_by_check words))
-    then option_map CheckExcluded (first_given (excluded_by_check words))
-    else if words.keyed && is_some words.derive_key then Some KeyedTwice
-    else if words.quiet && not words.check then Some QuietWithoutCheck
-    else if words.raw && nat_lt 1 (vec_len words.files) then Some RawOfMany
-    else if words.keyed && hashes_input words then Some KeyedWithoutFiles
+    then option_map check_excludes (first_given (excluded_by_check words))
+    else if words.keyed && is_some words.derive_key then Some (usage_text TwoKeys)
+    else if words.quiet && not words.check then Some (usage_text QuietAlone)
+    else if words.raw && nat_lt 1 (vec_len words.files) then Some (usage_text RawOne)
+    else if words.keyed && hashes_input words then Some (usage_text KeyNeedsFiles)
     else refusal_for_output words

@@ -1,22 +1,20 @@
-ghost use Rattle.std.specs.Prelude.{◌≡◌, ◌≢◌, ◌↔◌, ◌+◌, ◌-◌, ◌^◌, ◌<◌, ◌≤◌, ◌&&◌, [], true, false, Some, None, Err, IsTrue, IsSome, IsOk, OnOk, OnErr, IfOk, IfErr, IfSome, codes, length, take, drop, is_err, is_ok, is_some, if◌then◌else◌};
+ghost use Rattle.std.specs.Prelude.{◌≡◌, ◌≢◌, ◌↔◌, ◌+◌, ◌-◌, ◌^◌, ◌<◌, ◌≤◌, ◌&&◌, [], true, false, Some, None, Err, IsTrue, IsSome, IsOk, OnOk, OnErr, IfOk, IfErr, IfSome, length, take, drop, is_err, is_ok, is_some, if◌then◌else◌};
 ghost use Rattle.std.specs.IoError.{error_kind};
-ghost use Rattle.b3_check.specs.Contents.{Gives, HasContent, StandsForContent, LacksContent};
+ghost use Rattle.b3_check.specs.Contents.{Gives, HasContent, StandsForContent, LacksContent, input_name};
 ghost use Rattle.b3_check.specs.declared.shelf.NoContent.TheVariants.{Missing};
 ghost use Rattle.b3_hash.specs.Hashers.{StandsFor, mode_of};
 ghost use Rattle.b3_program.specs.Disks.{IsOfMissing, IsRefusedBy};
-ghost use Rattle.b3_program.specs.Files.{file_side, contents_with, input_side, is_input, is_open, rest_of, source_left, source_position, source_tells, told_if};
+ghost use Rattle.b3_program.specs.Files.{contents_with, rest_of, told_if};
+ghost use Rattle.b3_program.specs.Sources.{file_side, input_side, is_input, is_open, source_left, source_position, source_tells};
 
 use crate::disk::{Disk, DiskFile, Input};
 use crate::retrying::fill_at;
 use crate::source::Source;
-use b3_check::{CannotRead, NoContent, Shelf};
+use b3_check::{CannotRead, INPUT_NAME, NoContent, Shelf};
 use b3_hash::Hasher;
 use std::io::{self, ErrorKind};
 
-/// The name that stands for standard input.
-const INPUT_NAME: &str = "-";
-
-/// The files of a disk, with an input under the name `-`, which can be begun once.
+/// The files of a disk, with an input under its name, which can be begun once.
 #[derive(Drop)]
 pub struct FileShelf<D: Disk, I: Input> {
     disk: D,
@@ -25,11 +23,11 @@ pub struct FileShelf<D: Disk, I: Input> {
     is_input_taken: bool,
     source: Source<D::File, I, I::File>,
     // how many bytes were read of it
-    given: u64,
+    consumed: u64,
     failures: u64,
-    ghost at_given: { IsTrue D.File.tells → source_position D.File.position source given ≡ given },
+    ghost at_consumed: { IsTrue D.File.tells → source_position D.File.position source consumed ≡ consumed },
     ghost in_step: { IsTrue I.tells → IsTrue I.File.tells
-        → input_side I.content I.position I.File.content source given ≡ file_side I.File.content source given },
+        → input_side I.content I.position I.File.content source consumed ≡ file_side I.File.content source consumed },
 }
 
 impl<D: Disk, I: Input> FileShelf<D, I> {
@@ -46,7 +44,7 @@ impl<D: Disk, I: Input> FileShelf<D, I> {
             input,
             is_input_taken: false,
             source: Source::Nothing,
-            given: 0,
+            consumed: 0,
             failures: 0,
         }
     }
@@ -57,24 +55,24 @@ impl<D: Disk, I: Input> FileShelf<D, I> {
         ensures open { is_open self.new.source ≡ (is_open self.old.source && is_some result) }
         ensures within { IfSome result (λ n. n ≤ length buffer.old) }
         ensures bytes { IsTrue (source_tells D.File.tells I.tells I.File.tells self.old.source) → IfSome result (λ n.
-            Gives (source_left D.File.content I.content I.position I.File.content self.old.source self.old.given)
+            Gives (source_left D.File.content I.content I.position I.File.content self.old.source self.old.consumed)
             (take n buffer.new)
-            (source_left D.File.content I.content I.position I.File.content self.new.source self.new.given)) }
+            (source_left D.File.content I.content I.position I.File.content self.new.source self.new.consumed)) }
         ensures not_open { is_open self.old.source ≡ false → result ≡ Some 0 }
         ensures failures { self.new.failures ≡ self.old.failures }
         ensures disk { self.new.disk ≡ self.old.disk }
         ensures input { self.new.input ≡ self.old.input }
         ensures input_taken { self.new.is_input_taken ≡ self.old.is_input_taken }
     {
-        let Some(count) = self.source.read(self.given, buffer) else {
+        let Some(count) = self.source.read(self.consumed, buffer) else {
             self.source = Source::Nothing;
             return None;
         };
-        let Some(given) = self.given.checked_add(count as u64) else {
+        let Some(consumed) = self.consumed.checked_add(count as u64) else {
             self.source = Source::Nothing;
             return None;
         };
-        self.given = given;
+        self.consumed = consumed;
         Some(count)
     }
 
@@ -94,7 +92,7 @@ impl<D: Disk, I: Input> FileShelf<D, I> {
 
 // Why a name that cannot be opened gives no content: it is missing where no such name is there, and where what
 // should be a folder on its way is none.
-fn why_not(error: &io::Error) -> NoContent
+fn no_content_for(error: &io::Error) -> NoContent
     ensures { (result ≡ Missing) ↔ IsOfMissing (error_kind error.now) }
 {
     match error.kind() {
@@ -104,12 +102,12 @@ fn why_not(error: &io::Error) -> NoContent
 }
 
 // Whether a file tells a length above 0, and of at most so many bytes.
-fn is_soon_read(plain_len: Option<u64>, longest: u64) -> bool {
-    plain_len.is_some_and(|len| (1..=longest).contains(&len))
+fn is_short_file(plain_len: Option<u64>, max_len: u64) -> bool {
+    plain_len.is_some_and(|len| (1..=max_len).contains(&len))
 }
 
 // Has a file of at most so many bytes hashed, piece by piece, and answers whether it has.
-fn hash_file<F: DiskFile>(file: &F, longest: u64, buffer: &mut [u8], hasher: &mut Hasher) -> bool
+fn hash_file<F: DiskFile>(file: &F, max_len: u64, buffer: &mut [u8], hasher: &mut Hasher) -> bool
     requires buffer { 0 < length buffer.old }
     requires fresh { StandsFor hasher.old [] }
     ensures len { length buffer.new ≡ length buffer.old }
@@ -118,7 +116,7 @@ fn hash_file<F: DiskFile>(file: &F, longest: u64, buffer: &mut [u8], hasher: &mu
     ensures content { IsTrue F.tells → IsTrue result → StandsFor hasher.new (F.content file.now) }
 {
     let mut offset = 0u64;
-    for _ in 0..=longest / buffer.len() as u64 {
+    for _ in 0..=max_len / buffer.len() as u64 {
         let Some(count) = fill_at(file, offset, buffer) else {
             return false;
         };
@@ -147,7 +145,7 @@ impl<D: Disk, I: Input> Shelf for FileShelf<D, I> {
     ghost is_begun = { λ shelf. is_open shelf.source };
 
     ghost left = { λ shelf.
-        source_left D.File.content I.content I.position I.File.content shelf.source shelf.given };
+        source_left D.File.content I.content I.position I.File.content shelf.source shelf.consumed };
 
     fn begin(&mut self, name: &str) -> Result<(), NoContent>
         requires { self.old.failures < 2 ^ 64 - 1 }
@@ -156,28 +154,28 @@ impl<D: Disk, I: Input> Shelf for FileShelf<D, I> {
         ensures content { IsTrue D.File.tells → IsTrue I.tells → IsTrue I.File.tells
             → OnOk result (contents_with (D.contents self.old.disk) (rest_of I.content I.position self.old.input)
             name.now
-            ≡ Some (source_left D.File.content I.content I.position I.File.content self.new.source self.new.given)) }
+            ≡ Some (source_left D.File.content I.content I.position I.File.content self.new.source self.new.consumed)) }
         ensures missing { IsTrue D.File.tells → result ≡ Err Missing
             → contents_with (D.contents self.old.disk) (rest_of I.content I.position self.old.input) name.now ≡ None }
-        ensures refused { name.now ≢ codes "-" → IfErr result (IsRefusedBy (D.fails_by self.old.disk name.now)) }
+        ensures refused { name.now ≢ input_name → IfErr result (IsRefusedBy (D.fails_by self.old.disk name.now)) }
 
         // The input can be begun once, and is never missing; no other name takes it.
-        ensures input { name.now ≡ codes "-" → (IsOk result ↔ (self.old.is_input_taken ≡ false)) }
-        ensures input_there { name.now ≡ codes "-" → result ≢ Err Missing }
-        ensures input_taken { name.now ≡ codes "-" → self.new.is_input_taken ≡ true }
-        ensures other { name.now ≢ codes "-" → self.new.is_input_taken ≡ self.old.is_input_taken }
+        ensures input { name.now ≡ input_name → (IsOk result ↔ (self.old.is_input_taken ≡ false)) }
+        ensures input_there { name.now ≡ input_name → result ≢ Err Missing }
+        ensures input_taken { name.now ≡ input_name → self.new.is_input_taken ≡ true }
+        ensures other { name.now ≢ input_name → self.new.is_input_taken ≡ self.old.is_input_taken }
         ensures disk { self.new.disk ≡ self.old.disk }
         ensures unread { self.new.input ≡ self.old.input }
     {
         // The file before is closed first: its number may be the one that the input had.
         self.source = Source::Nothing;
-        self.given = 0;
+        self.consumed = 0;
         if name != INPUT_NAME {
             match self.disk.open(name) {
                 Ok(file) => self.source = Source::Opened(file),
                 Err(error) => {
                     self.fail();
-                    return Err(why_not(&error));
+                    return Err(no_content_for(&error));
                 }
             }
             return Ok(());
@@ -198,9 +196,9 @@ impl<D: Disk, I: Input> Shelf for FileShelf<D, I> {
         ensures begun { is_open self.new.source ≡ (is_open self.old.source && is_ok result) }
         ensures within { IfOk result (λ n. n ≤ length buffer.old) }
         ensures bytes { IsTrue (source_tells D.File.tells I.tells I.File.tells self.old.source) → IfOk result (λ n.
-            Gives (source_left D.File.content I.content I.position I.File.content self.old.source self.old.given)
+            Gives (source_left D.File.content I.content I.position I.File.content self.old.source self.old.consumed)
             (take n buffer.new)
-            (source_left D.File.content I.content I.position I.File.content self.new.source self.new.given)) }
+            (source_left D.File.content I.content I.position I.File.content self.new.source self.new.consumed)) }
         ensures not_begun { is_open self.old.source ≡ false → IfOk result (λ n. n ≡ 0) }
         ensures input_taken { self.new.is_input_taken ≡ self.old.is_input_taken }
         ensures disk { self.new.disk ≡ self.old.disk }
@@ -215,22 +213,22 @@ impl<D: Disk, I: Input> Shelf for FileShelf<D, I> {
 
     // Of a plain file that tells its length, and of no other: those of `/proc` tell 0. The name is asked first, since a
     // FIFO would wait to be opened; then the open file, which may be another by then, and would wait to be read.
-    fn hash_whole(&self, name: &str, longest: u64, buffer: &mut [u8], hasher: &mut Hasher) -> bool {
-        if name == INPUT_NAME || !is_soon_read(self.disk.plain_len(name), longest) {
+    fn hash_whole(&self, name: &str, max_len: u64, buffer: &mut [u8], hasher: &mut Hasher) -> bool {
+        if name == INPUT_NAME || !is_short_file(self.disk.plain_len(name), max_len) {
             return false;
         }
         let Ok(file) = self.disk.open(name) else {
             return false;
         };
-        is_soon_read(file.plain_len(), longest) && hash_file(&file, longest, buffer, hasher)
+        is_short_file(file.plain_len(), max_len) && hash_file(&file, max_len, buffer, hasher)
     }
 
     // All who read hold the one file that is open: another file under its name changes nothing.
     fn read_at(&self, offset: u64, buffer: &mut [u8]) -> Option<usize> {
-        self.source.fill_at(self.given, offset, buffer)
+        self.source.fill_at(self.consumed, offset, buffer)
     }
 
     fn len_hint(&self) -> u64 {
-        self.source.len().saturating_sub(self.given)
+        self.source.len().saturating_sub(self.consumed)
     }
 }

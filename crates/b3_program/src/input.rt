@@ -2,7 +2,7 @@
 
 ghost use Rattle.std.specs.Prelude.{◌≡◌, ◌+◌, ◌<◌, ◌≤◌, true, IsTrue, length, take, IfSome};
 ghost use Rattle.b3_check.specs.Contents.{Gives};
-ghost use Rattle.b3_program.specs.Files.{file_rest, input_rest};
+ghost use Rattle.b3_program.specs.Sources.{file_rest, input_rest};
 
 use crate::disk::{DiskFile, Input};
 use crate::retrying::{fill, fill_at, read_at_retrying, read_retrying};
@@ -64,16 +64,17 @@ impl<I: Input<File = P>, P: DiskFile> InputFile<I, P> {
     }
 
     /// The next bytes, where so many were given.
-    pub fn read(&mut self, given: u64, buffer: &mut [u8]) -> Option<usize>
+    pub fn read(&mut self, consumed: u64, buffer: &mut [u8]) -> Option<usize>
         requires buffer { 0 < length buffer.old }
         requires in_step { IsTrue I.tells → IsTrue P.tells
-            → input_rest I.content I.position P.content self.old given ≡ file_rest P.content self.old given }
+            → input_rest I.content I.position P.content self.old consumed ≡ file_rest P.content self.old consumed }
         ensures within { IfSome result (λ n. n ≤ length buffer.old) }
         ensures bytes { IsTrue I.tells → IsTrue P.tells → IfSome result (λ n.
-            Gives (file_rest P.content self.old given) (take n buffer.new) (file_rest P.content self.new (given + n))) }
+            Gives (file_rest P.content self.old consumed) (take n buffer.new)
+            (file_rest P.content self.new (consumed + n))) }
         ensures in_step { IsTrue I.tells → IsTrue P.tells → IfSome result (λ n.
-            input_rest I.content I.position P.content self.new (given + n)
-            ≡ file_rest P.content self.new (given + n)) }
+            input_rest I.content I.position P.content self.new (consumed + n)
+            ≡ file_rest P.content self.new (consumed + n)) }
     {
         let Ok(count) = read_retrying(&mut self.input, buffer) else {
             return None;
@@ -82,6 +83,6 @@ impl<I: Input<File = P>, P: DiskFile> InputFile<I, P> {
             return Some(count);
         }
         self.is_in_step = false;
-        read_at_retrying(&self.file, self.start.checked_add(given)?, buffer).ok()
+        read_at_retrying(&self.file, self.start.checked_add(consumed)?, buffer).ok()
     }
 }

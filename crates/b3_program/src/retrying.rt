@@ -9,7 +9,7 @@ use crate::disk::{DiskFile, Stream};
 use std::io::{self, ErrorKind, Write};
 
 /// How often an interrupted call is made at most.
-const TRIES: u32 = 1_000;
+const MAX_TRIES: u32 = 1_000;
 
 /// Reads, as `Stream::read` does.
 pub fn read_retrying<S: Stream>(stream: &mut S, buffer: &mut [u8]) -> io::Result<usize>
@@ -20,7 +20,7 @@ pub fn read_retrying<S: Stream>(stream: &mut S, buffer: &mut [u8]) -> io::Result
     ensures position { IsTrue S.tells → S.position stream.new ≡ S.position stream.old + count_of result }
     ensures content { IsTrue S.tells → S.content stream.new ≡ S.content stream.old }
 {
-    for _try in 1..TRIES {
+    for _try in 1..MAX_TRIES {
         match stream.read(buffer) {
             Err(error) if error.kind() == ErrorKind::Interrupted => {}
             result => return result,
@@ -53,7 +53,7 @@ pub fn read_at_retrying<F: DiskFile>(file: &F, offset: u64, buffer: &mut [u8]) -
     ensures buffer { length buffer.new ≡ length buffer.old }
     ensures bytes { IsTrue F.tells → ReadsAt (F.content file.now) offset result buffer.new }
 {
-    for _try in 1..TRIES {
+    for _try in 1..MAX_TRIES {
         match file.read_at(offset, buffer) {
             Err(error) if error.kind() == ErrorKind::Interrupted => {}
             result => return result,
@@ -89,7 +89,7 @@ pub fn write_retrying<W: Write>(writer: &mut W, bytes: &[u8]) -> io::Result<usiz
     ensures bound { WritesAtMost result bytes.now }
     ensures bytes { WriteAppends (W.contents writer.old) (W.contents writer.new) result bytes.now }
 {
-    for _try in 1..TRIES {
+    for _try in 1..MAX_TRIES {
         match writer.write(bytes) {
             Err(error) if error.kind() == ErrorKind::Interrupted => {}
             result => return result,

@@ -1,6 +1,6 @@
 ghost use Rattle.std.specs.Prelude.{◌≡◌, ◌+◌, ◌^◌, ◌<◌, ◌≤◌, None, Some, IfOk, IfErr, map, string_bytes};
 ghost use Rattle.b3_check.specs.Contents.{Contents};
-ghost use Rattle.b3_check.specs.Runs.{Ran, RanSurely, Stopped, scene};
+ghost use Rattle.b3_check.specs.Runs.{Ran, RanSurely, Stopped, io_state};
 ghost use Rattle.b3_program.specs.Programs.{CanDo, DoesTask, Ends, EndsRightly, IsDone, limits_for, names_of, script_of};
 ghost use Rattle.b3_program.specs.Tasks.{task_for};
 ghost use Rattle.b3_program.specs.Usages.{refusal_for};
@@ -10,7 +10,7 @@ use crate::stop::{FAILURE, USAGE};
 use crate::task::{Task, settle};
 use crate::words::Words;
 use b3_board::Gate;
-use b3_check::{RunFault, Shelf, Sink, Tally, run_check, run_sum};
+use b3_check::{INPUT_NAME, RunFault, Shelf, Sink, Tally, run_check, run_sum};
 use std::alloc::{AllocError, Global};
 use std::sync::Wait;
 use std::thread::Threads;
@@ -29,8 +29,8 @@ pub fn run_words<
     requires out_failures { O.failures out.old < 2 ^ 63 }
     requires err_failures { E.failures err.old < 2 ^ 63 }
     ensures ends { Ends words
-        (scene S.Shelf O.Sink E.Sink shelf.old out.old err.old)
-        (scene S.Shelf O.Sink E.Sink shelf.new out.new err.new) result }
+        (io_state S.Shelf O.Sink E.Sink shelf.old out.old err.old)
+        (io_state S.Shelf O.Sink E.Sink shelf.new out.new err.new) result }
 
     // Over a shelf that tells its contents, whatever fails: each name has the line of its content's digest or a
     // complaint in its place, or each line of each list the right verdict; at a fault a beginning of that.
@@ -67,8 +67,8 @@ fn run_task<R: Threads + Wait + Sync, S: Shelf + Send + Sync, O: Sink, E: Sink, 
     requires out_failures { O.failures out.old < 2 ^ 63 }
     requires err_failures { E.failures err.old < 2 ^ 63 }
     ensures { DoesTask task
-        (scene S.Shelf O.Sink E.Sink shelf.old out.old err.old)
-        (scene S.Shelf O.Sink E.Sink shelf.new out.new err.new) result }
+        (io_state S.Shelf O.Sink E.Sink shelf.old out.old err.old)
+        (io_state S.Shelf O.Sink E.Sink shelf.new out.new err.new) result }
 {
     match run_engine(rt, alloc, shelf, task, out, err, gate) {
         Ok(tally) => tally.status(),
@@ -94,14 +94,14 @@ fn run_engine<R: Threads + Wait + Sync, S: Shelf + Send + Sync, O: Sink, E: Sink
     requires out_failures { O.failures out.old < 2 ^ 63 }
     requires err_failures { E.failures err.old < 2 ^ 63 }
     ensures ok { IfOk result (λ tally. Ran (script_of task)
-        (scene S.Shelf O.Sink E.Sink shelf.old out.old err.old)
-        (scene S.Shelf O.Sink E.Sink shelf.new out.new err.new) tally) }
+        (io_state S.Shelf O.Sink E.Sink shelf.old out.old err.old)
+        (io_state S.Shelf O.Sink E.Sink shelf.new out.new err.new) tally) }
     ensures sure { IfOk result (λ tally. RanSurely (script_of task)
-        (scene S.Shelf O.Sink E.Sink shelf.old out.old err.old)
-        (scene S.Shelf O.Sink E.Sink shelf.new out.new err.new) tally) }
+        (io_state S.Shelf O.Sink E.Sink shelf.old out.old err.old)
+        (io_state S.Shelf O.Sink E.Sink shelf.new out.new err.new) tally) }
     ensures fault { IfErr result (λ fault. Stopped (limits_for task) (script_of task)
-        (scene S.Shelf O.Sink E.Sink shelf.old out.old err.old)
-        (scene S.Shelf O.Sink E.Sink shelf.new out.new err.new) fault) }
+        (io_state S.Shelf O.Sink E.Sink shelf.old out.old err.old)
+        (io_state S.Shelf O.Sink E.Sink shelf.new out.new err.new) fault) }
     ensures err_count { E.failures err.new ≤ E.failures err.old + 1 }
 {
     match task {
@@ -124,6 +124,6 @@ fn names_of(alloc: Global, files: Vec<String>) -> Result<Vec<String>, AllocError
         return Ok(files);
     }
     let mut names = Vec::new(alloc);
-    names.push(String::from_str(alloc, "-")?)?;
+    names.push(String::from_str(alloc, INPUT_NAME)?)?;
     Ok(names)
 }

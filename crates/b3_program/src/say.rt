@@ -2,7 +2,7 @@
 
 ghost use Rattle.std.specs.Prelude.{◌≡◌, ◌+◌, ◌-◌, ◌^◌, ◌<◌, ◌++◌, OnOk, OnErr, is_err, if◌then◌else◌};
 ghost use Rattle.std.specs.Io.KnownBytes.{Appends};
-ghost use Rattle.b3_check.specs.Runs.{sheet};
+ghost use Rattle.b3_check.specs.Runs.{sink_state};
 ghost use Rattle.b3_check.specs.Sinks.{GainsBeginning};
 ghost use Rattle.b3_program.specs.Said.{IsSaid, line_of};
 
@@ -11,7 +11,7 @@ use b3_check::{Sink, SinkFailed, write_all};
 /// Says a text, and answers whether the sink took all of it.
 pub fn say<K: Sink>(sink: &mut K, text: &str) -> bool
     requires { K.failures sink.old < 2 ^ 64 - 1 }
-    ensures { IsSaid (sheet K.Sink sink.old) (sheet K.Sink sink.new) text.now result }
+    ensures { IsSaid (sink_state K.Sink sink.old) (sink_state K.Sink sink.new) text.now result }
 {
     write_all(sink, text.as_bytes()).is_ok()
 }
@@ -19,7 +19,7 @@ pub fn say<K: Sink>(sink: &mut K, text: &str) -> bool
 /// Says a line of a text and what follows it, and answers whether the sink took all of it.
 pub fn say_line<K: Sink>(sink: &mut K, text: &str, more: &str) -> bool
     requires { K.failures sink.old < 2 ^ 64 - 1 }
-    ensures { IsSaid (sheet K.Sink sink.old) (sheet K.Sink sink.new) (line_of (text.now ++ more.now)) result }
+    ensures { IsSaid (sink_state K.Sink sink.old) (sink_state K.Sink sink.new) (line_of (text.now ++ more.now)) result }
 {
     write_both(sink, text, more).is_ok()
 }

@@ -1,7 +1,7 @@
 ghost use Rattle.std.specs.Prelude.{◌≡◌, ◌+◌, ◌-◌, ◌^◌, ◌<◌};
 
 use crate::say::{say, say_line};
-use b3_check::{RunFault, Sink};
+use b3_check::{RunFault, Sink, prefixed};
 use std::alloc::AllocError;
 use std::io;
 
@@ -27,23 +27,23 @@ pub enum Stop {
 }
 
 impl Stop {
-    ghost use Rattle.b3_check.specs.Runs.{sheet};
+    ghost use Rattle.b3_check.specs.Runs.{sink_state};
     ghost use Rattle.b3_program.specs.Stops.{EndsBy};
 
     /// Says why, and answers the status. Help and version are no faults, unless they cannot be written.
     pub fn say<O: Sink, E: Sink>(&self, out: &mut O, err: &mut E) -> u8
         requires out { O.failures out.old < 2 ^ 64 - 1 }
         requires err { E.failures err.old < 2 ^ 64 - 1 }
-        ensures { EndsBy self.now (sheet O.Sink out.old) (sheet E.Sink err.old)
-            (sheet O.Sink out.new) (sheet E.Sink err.new) result }
+        ensures { EndsBy self.now (sink_state O.Sink out.old) (sink_state E.Sink err.old)
+            (sink_state O.Sink out.new) (sink_state E.Sink err.new) result }
     {
         match self {
             Stop::NotText => {
-                say_line(err, "b3sum: an argument is not text", "");
+                say_line(err, prefixed!("an argument is not text"), "");
                 USAGE
             }
             Stop::TooManyFiles => {
-                say_line(err, "b3sum: too many files", "");
+                say_line(err, prefixed!("too many files"), "");
                 USAGE
             }
             Stop::Memory => {

@@ -3,11 +3,11 @@ ghost use Rattle.std.specs.List.{list_any};
 ghost use Rattle.std.specs.Option.{option_map};
 ghost use Rattle.b3_program.specs.Tasks.{check_options, form_of, key_of, sum_options, task_for, workers_of};
 ghost use Rattle.b3_program.specs.declared.task.Task.TheVariants.{Sum};
-ghost use Rattle.b3_program.specs.Usages.{excluded_by_check, excluded_by_tag, first_given, hashes_input, is_input, refusal_for, refusal_for_output, refusal_of, refusal_without_check, seeks_past_end};
+ghost use Rattle.b3_program.specs.Usages.{excluded_by_check, excluded_by_tag, first_given, hashes_input, is_input, refusal_for, refusal_for_output, refusal_without_check, seeks_past_end, usage_text};
 
 use crate::usage::Usage;
 use crate::words::Words;
-use b3_check::{CheckOptions, Form, KeyChoice, MAX_WORKERS, SumOptions};
+use b3_check::{CheckOptions, Form, INPUT_NAME, KeyChoice, MAX_WORKERS, SumOptions};
 
 /// The number of output bytes where no word says another.
 const DEFAULT_LENGTH: u32 = 32;
@@ -35,7 +35,7 @@ pub enum Task {
 
 /// Decides what the words of a call ask for. It takes no memory.
 pub fn settle(words: Words) -> Result<Task, Usage>
-    ensures usage { IfErr result (λ usage. refusal_for words ≡ Some (refusal_of usage)) }
+    ensures usage { IfErr result (λ usage. refusal_for words ≡ Some (usage_text usage)) }
     ensures task { IfOk result (λ task. (refusal_for words ≡ None) × (task ≡ task_for words)) }
 {
     if let Some(usage) = refusal(&words) {
@@ -51,7 +51,7 @@ pub fn settle(words: Words) -> Result<Task, Usage>
 
 // The first refusal that holds of the words, in the order of `refusal_for`, which decides.
 fn refusal(words: &Words) -> Option<Usage>
-    ensures { option_map refusal_of result ≡ refusal_for words.now }
+    ensures { option_map usage_text result ≡ refusal_for words.now }
 {
     if words.check {
         if let Some(option) = excluded_by_check(words) {
@@ -75,7 +75,7 @@ fn refusal(words: &Words) -> Option<Usage>
 
 // The first refusal that holds of what is to be written, and of words that only a check takes.
 fn refusal_of_output(words: &Words) -> Option<Usage>
-    ensures { option_map refusal_of result ≡ refusal_for_output words.now }
+    ensures { option_map usage_text result ≡ refusal_for_output words.now }
 {
     if words.tag {
         if let Some(option) = excluded_by_tag(words) {
@@ -93,7 +93,7 @@ fn refusal_of_output(words: &Words) -> Option<Usage>
 
 // The first refusal that holds of words for a check, where nothing is checked.
 fn refusal_without_check(words: &Words) -> Option<Usage>
-    ensures { option_map refusal_of result ≡ refusal_without_check words.now }
+    ensures { option_map usage_text result ≡ refusal_without_check words.now }
 {
     if words.ignore_missing {
         Some(Usage::IgnoreMissingAlone)
@@ -160,14 +160,14 @@ fn seeks_past_end(words: &Words) -> bool
 fn hashes_input(words: &Words) -> bool
     ensures { result ≡ hashes_input words.now }
 {
-    words.files.is_empty() || name_input(words.files.as_slice())
+    words.files.is_empty() || includes_input(words.files.as_slice())
 }
 
 // Whether standard input is one of the files.
-fn name_input(files: &[String]) -> bool
+fn includes_input(files: &[String]) -> bool
     ensures { result ≡ list_any is_input files.now }
 {
-    files.iter().any(|file| file.as_str() == "-")
+    files.iter().any(|file| file.as_str() == INPUT_NAME)
 }
 
 fn check_options(words: &Words) -> CheckOptions

@@ -1,5 +1,7 @@
 ghost use Rattle.std.specs.Prelude.{◌≡◌, ◌++◌, [], string_bytes};
 
+use b3_check::prefixed;
+
 /// Why the words of a call ask for nothing that can be done.
 #[derive(Clone, Copy, Debug, PartialEq, Eq)]
 pub enum Usage {
@@ -28,27 +30,27 @@ pub enum Usage {
 }
 
 impl Usage {
-    ghost use Rattle.b3_program.specs.Usages.{refusal_of, refusal_text};
+    ghost use Rattle.b3_program.specs.Usages.{usage_text};
 
     /// The text for the user, without a line feed: its beginning, and the option that it ends with.
     pub fn text(&self) -> (&'static str, &'static str)
-        ensures { result.0.now ++ result.1.now ≡ refusal_text (refusal_of self.now) }
+        ensures { result.0.now ++ result.1.now ≡ usage_text self.now }
     {
         match *self {
-            Usage::CheckExcludes(option) => ("b3sum: --check cannot be used with ", option),
-            Usage::TwoKeys => ("b3sum: --keyed cannot be used with --derive-key", ""),
-            Usage::QuietAlone => ("b3sum: --quiet needs --check", ""),
-            Usage::RawOne => ("b3sum: --raw takes one input", ""),
-            Usage::KeyNeedsFiles => ("b3sum: --keyed needs files", ""),
-            Usage::TagExcludes(option) => ("b3sum: --tag cannot be used with ", option),
+            Usage::CheckExcludes(option) => (prefixed!("--check cannot be used with "), option),
+            Usage::TwoKeys => (prefixed!("--keyed cannot be used with --derive-key"), ""),
+            Usage::QuietAlone => (prefixed!("--quiet needs --check"), ""),
+            Usage::RawOne => (prefixed!("--raw takes one input"), ""),
+            Usage::KeyNeedsFiles => (prefixed!("--keyed needs files"), ""),
+            Usage::TagExcludes(option) => (prefixed!("--tag cannot be used with "), option),
             Usage::SeekPastEnd => {
-                let text = "b3sum: --seek and --length pass the end of the output";
+                let text = prefixed!("--seek and --length pass the end of the output");
                 (text, "")
             }
-            Usage::IgnoreMissingAlone => ("b3sum: --ignore-missing needs --check", ""),
-            Usage::StatusAlone => ("b3sum: --status needs --check", ""),
-            Usage::StrictAlone => ("b3sum: --strict needs --check", ""),
-            Usage::WarnAlone => ("b3sum: --warn needs --check", ""),
+            Usage::IgnoreMissingAlone => (prefixed!("--ignore-missing needs --check"), ""),
+            Usage::StatusAlone => (prefixed!("--status needs --check"), ""),
+            Usage::StrictAlone => (prefixed!("--strict needs --check"), ""),
+            Usage::WarnAlone => (prefixed!("--warn needs --check"), ""),
         }
     }
 }

@@ -1,5 +1,6 @@
 ghost use Rattle.std.specs.Prelude.{◌≤◌, ◌^◌, vec_len};
 ghost use Rattle.std.specs.Option.{ForSome};
+ghost use Rattle.b3_check.specs.Options.{max_output_len};
 
 /// What the words of a call say.
 #[derive(Debug, Drop)]
@@ -34,6 +35,6 @@ pub struct Words {
     pub num_threads: Option<u16>,
     /// The files, as they were given.
     pub files: Vec<String>,
-    ghost length_in_range: { ForSome length (λ n. n ≤ 1048576) },
+    ghost length_in_range: { ForSome length (λ n. n ≤ max_output_len) },
     ghost files_in_range: { vec_len files ≤ 2 ^ 30 },
 }

@@ -3,7 +3,7 @@ use Rattle.std.specs.Prelude.{◌≡◌, ◌⊎◌, ℕ, false, List, Option, Re
 use Rattle.std.specs.declared.io.Error.{Error}
 use Rattle.clap.specs.Walk.{Text}
 use Rattle.b3_check.specs.Contents.{Contents}
-use Rattle.b3_check.specs.Runs.{Scene}
+use Rattle.b3_check.specs.Runs.{IoState}
 use Rattle.b3_program.specs.Programs.{Ends}
 use Rattle.b3_program.specs.Stops.{EndsBy, IsStopForInput}
 use Rattle.b3_program.specs.declared.stop.Stop.{Stop}
@@ -27,24 +27,24 @@ AreWordsOf (Ok texts) words = AreFrom texts words
 AreWordsOf (Err error) words = ⊥
 
 -- the call stops before it reads anything
-pub record EndsEarly (given : Result (List Text) Error) (before after : Scene) (status : ℕ) : Type 0 where
+pub record EndsEarly (given : Result (List Text) Error) (before after : IoState) (status : ℕ) : Type 0 where
   pub stop : Stop
   pub why : IsStopOf given stop
   pub kept : (after.told ≡ before.told) × (after.sure ≡ before.sure) × (after.failures ≡ before.failures)
   pub said : EndsBy stop before.out before.err after.out after.err status
 
 -- what the words that were given ask for is done
-pub record EndsByWords (given : Result (List Text) Error) (before after : Scene) (status : ℕ) : Type 0 where
+pub record EndsByWords (given : Result (List Text) Error) (before after : IoState) (status : ℕ) : Type 0 where
   pub words : Words
   pub are_given : AreWordsOf given words
   pub ends : Ends words before after status
 
-abbrev pub EndsCall : Result (List Text) Error → Scene → Scene → ℕ → Type 0
+abbrev pub EndsCall : Result (List Text) Error → IoState → IoState → ℕ → Type 0
 EndsCall given before after status =
     EndsEarly given before after status ⊎ EndsByWords given before after status
 
--- the scene of a shelf and two outputs that have not failed
-abbrev pub fresh : Option Contents → Option (List ℕ) → Option (List ℕ) → Scene
+-- the state of a shelf and two outputs that have not failed
+abbrev pub fresh : Option Contents → Option (List ℕ) → Option (List ℕ) → IoState
 fresh told out err = record {
   told = told;
   sure = false;
@@ -56,7 +56,7 @@ fresh told out err = record {
 -- the call over a shelf that tells this, and over these outputs: what they hold afterwards, and the status
 pub record CallsWith (given : Result (List Text) Error) (told : Option Contents)
     (out err out_after err_after : Option (List ℕ)) (status : ℕ) : Type 0 where
-  pub after : Scene
+  pub after : IoState
   pub ends : EndsCall given (fresh told out err) after status
   pub out_is : after.out.held ≡ out_after
   pub err_is : after.err.held ≡ err_after

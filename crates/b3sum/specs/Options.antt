@@ -6,6 +6,7 @@ use Rattle.clap.specs.Walk.{Rule, Text}
 use Rattle.clap.specs.declared.builder.action.ArgAction.TheVariants.{Append, SetTrue}
 use Rattle.clap.specs.declared.builder.value_parser.ValueParser.{ValueParser}
 use Rattle.clap.specs.declared.builder.value_parser.ValueParser.TheVariants.{Signed, Unsigned}
+use Rattle.b3_check.specs.Options.{max_output_len}
 
 -- an option without a value, and with one
 abbrev pub flag : Text → Rule
@@ -32,7 +33,7 @@ hashing = flag (codes "keyed") ∷ option (codes "derive-key") ∷ []
 
 abbrev pub output : List Rule
 output =
-    record (number (codes "length") (Signed (pos 0) (pos 1048576))) { short = Some 108 }
+    record (number (codes "length") (Signed (pos 0) (pos max_output_len))) { short = Some 108 }
     ∷ number (codes "seek") (Unsigned 0 18446744073709551615)
     ∷ flag (codes "raw")
     ∷ flag (codes "no-names")

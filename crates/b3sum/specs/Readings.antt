@@ -5,6 +5,7 @@ use Rattle.std.specs.Str.Parse.{IsNumeral, digits_value, without_leading_plus}
 use Rattle.clap.specs.Faults.{fault_of}
 use Rattle.clap.specs.Simple.{matches_of}
 use Rattle.clap.specs.Walk.{Row, Text, all_of, first_of, one_of}
+use Rattle.b3_check.specs.Options.{max_output_len}
 use Rattle.b3_program.specs.declared.words.Words.{Words}
 use Rattle.b3sum.specs.Options.{options}
 
@@ -37,7 +38,7 @@ pub record AreOf (rows : List Row) (words : Words) : Type 0 where
   pub check : IsFlag (one_of (codes "check") rows) words.check
   pub keyed : IsFlag (one_of (codes "keyed") rows) words.keyed
   pub derive_key : option_map string_bytes words.derive_key ≡ first_of (codes "derive-key") rows
-  pub length : IsNumberUpTo 1048576 32 (one_of (codes "length") rows) words.length
+  pub length : IsNumberUpTo max_output_len 32 (one_of (codes "length") rows) words.length
   pub seek : IsNumber 64 (one_of (codes "seek") rows) words.seek
   pub raw : IsFlag (one_of (codes "raw") rows) words.raw
   pub no_names : IsFlag (one_of (codes "no-names") rows) words.no_names

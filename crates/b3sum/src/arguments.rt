@@ -7,32 +7,32 @@ use std::env::FillError;
 use std::io::{self, ErrorKind};
 use std::rt::Env;
 
-/// How many bytes an argument has room for before there is one that is longer.
-const FIRST_ROOM: usize = 256;
+/// How many bytes the buffer has before there is an argument that is longer.
+const FIRST_BUFFER_LEN: usize = 256;
 
 /// The arguments of a call, each in a buffer of its own length: those of `env::args` have 256 bytes and more, which
 /// is far more than a name takes.
 pub fn arguments<R: Env>(rt: &R, alloc: Global) -> io::Result<Vec<String>> {
-    let mut room = vec![in alloc; 0; FIRST_ROOM]?;
+    let mut buffer = vec![in alloc; 0; FIRST_BUFFER_LEN]?;
     let mut arguments = Vec::new(alloc);
     for i in 0..usize::MAX {
-        let Some(len) = read(rt, i, &mut room)? else {
+        let Some(len) = read(rt, i, &mut buffer)? else {
             break;
         };
-        arguments.push(text(alloc, &room[..len])?)?;
+        arguments.push(text(alloc, &buffer[..len])?)?;
     }
     Ok(arguments)
 }
 
-// Reads an argument into the room, which grows until it takes it, and answers its length; nothing after the last one.
-fn read<R: Env>(rt: &R, i: usize, room: &mut Vec<u8>) -> Result<Option<usize>, AllocError>
-    ensures { IfOk result (λ found. IfSome found (λ len. len ≤ vec_len room.new)) }
+// Reads an argument into the buffer, which grows until it takes it, and answers its length; nothing after the last one.
+fn read<R: Env>(rt: &R, i: usize, buffer: &mut Vec<u8>) -> Result<Option<usize>, AllocError>
+    ensures { IfOk result (λ found. IfSome found (λ len. len ≤ vec_len buffer.new)) }
 {
     for _ in 0..usize::BITS {
-        match rt.arg(i, room.as_mut_slice()) {
+        match rt.arg(i, buffer.as_mut_slice()) {
             Ok(len) => return Ok(Some(len)),
             Err(FillError::NotPresent) => return Ok(None),
-            Err(FillError::TooLong) => room.resize(room.len().saturating_mul(2), 0)?,
+            Err(FillError::TooLong) => buffer.resize(buffer.len().saturating_mul(2), 0)?,
         }
     }
     Err(AllocError)

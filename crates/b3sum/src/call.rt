@@ -1,7 +1,7 @@
 //! A call of the program, from its arguments to its status.
 
 ghost use Rattle.std.specs.Prelude.{◌^◌, ◌<◌, ◌&&◌, IfErr, IfOk};
-ghost use Rattle.b3_check.specs.Runs.{scene};
+ghost use Rattle.b3_check.specs.Runs.{io_state};
 ghost use Rattle.b3_program.specs.Files.{contents_with, rest_of, told_if};
 ghost use Rattle.b3sum.specs.Calls.{AreWordsOf, CallsWith, EndsCall, IsStopOf, texts_in};
 
@@ -86,8 +86,8 @@ pub fn run_call<R: Threads + Wait + Sync, S: Shelf + Send + Sync, O: Sink, E: Si
     requires out_failures { O.failures out.old < 2 ^ 63 }
     requires err_failures { E.failures err.old < 2 ^ 63 }
     ensures { EndsCall (texts_in arguments)
-        (scene S.Shelf O.Sink E.Sink shelf.old out.old err.old)
-        (scene S.Shelf O.Sink E.Sink shelf.new out.new err.new) result }
+        (io_state S.Shelf O.Sink E.Sink shelf.old out.old err.old)
+        (io_state S.Shelf O.Sink E.Sink shelf.new out.new err.new) result }
 {
     match read_arguments(alloc, arguments) {
         Ok(words) => run_words(rt, alloc, shelf, words, out, err, gate),

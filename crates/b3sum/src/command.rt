@@ -3,6 +3,7 @@
 ghost use Rattle.std.specs.Prelude.{◌≡◌, IfOk, Some, codes, pos};
 ghost use Rattle.clap.specs.declared.builder.value_parser.ValueParser.TheVariants as vp;
 ghost use Rattle.clap.specs.Words.{app_of, rule_of};
+ghost use Rattle.b3_check.specs.Options.{max_output_len};
 ghost use Rattle.b3sum.specs.Options as spec;
 
 use b3_check::MAX_OUTPUT_LEN;
@@ -169,7 +170,7 @@ fn derive_key<'a>(alloc: Global) -> Arg<'a>
 }
 
 fn length<'a>(alloc: Global) -> Arg<'a>
-    ensures { rule_of result ≡ record (spec.number (codes "length") (vp.Signed (pos 0) (pos 1048576))) {
+    ensures { rule_of result ≡ record (spec.number (codes "length") (vp.Signed (pos 0) (pos max_output_len))) {
       short = Some 108;
     } }
 {

@@ -4,6 +4,7 @@ ghost use Rattle.std.specs.Prelude.{◌≡◌, ◌⊎◌, ◌<◌, ◌≤◌, �
 ghost use Rattle.std.specs.Prelude.{option_map, string_bytes};
 ghost use Rattle.std.specs.Option.{ForSome};
 ghost use Rattle.clap.specs.Words.{first_of, found_of, kind_of, rows_of};
+ghost use Rattle.b3_check.specs.Options.{max_output_len};
 ghost use Rattle.b3_program.specs.declared.stop.Stop.TheVariants.{Memory, TooManyFiles};
 ghost use Rattle.b3sum.specs.Readings.{AreFrom, AreOf, files_in};
 ghost use Rattle.b3sum.specs.Refusals.{IsStopFor, IsStopOver};
@@ -60,8 +61,8 @@ fn words_of(alloc: Global, matches: &ArgMatches) -> Result<Words, Stop>
 
 // No greater number passes the parser.
 fn within_output(length: Option<u32>) -> Option<u32>
-    ensures bounded { result ≡ option_map (λ n. min n 1048576) length }
-    ensures most { ForSome result (λ n. n ≤ 1048576) }
+    ensures bounded { result ≡ option_map (λ n. min n max_output_len) length }
+    ensures most { ForSome result (λ n. n ≤ max_output_len) }
 {
     Some(length?.min(MAX_OUTPUT_LEN))
 }

@@ -4,10 +4,12 @@ ghost use Rattle.std.specs.Prelude.{◌≡◌, length};
 ghost use Rattle.b3_board.specs.Plans.{IsPlanOf};
 ghost use Rattle.b3_board.specs.Seats.{IsSeatOf};
 
-use super::meeting::Yielding;
 use super::memory::by_grain;
+use super::rendezvous::Yielding;
 use super::{assert_root, counts, open_board, pattern, span, sweep};
-use b3_board::{BoardFault, Claims, Done, Ended, MemoryBoard, Named, Plan, Refused, Share, worker};
+use b3_board::{
+    BoardFault, Claims, Done, Ended, InputLedger, MemoryBoard, Plan, Refused, Share, worker,
+};
 use b3_core::{Mode, Span};
 use std::alloc::Global;
 use std::marker::{Brand, Send, Sync};
@@ -18,7 +20,7 @@ use std::test::Fail;
 use std::thread;
 use std::thread::Threads;
 
-fn is_open<'a, L: Named>(board: &MemoryBoard<'a, L>, span: Span) -> bool {
+fn is_open<'a, L: InputLedger>(board: &MemoryBoard<'a, L>, span: Span) -> bool {
     for i in 0..board.open_spans() {
         if board.open_span(i) == Some(span) {
             return true;
@@ -28,7 +30,7 @@ fn is_open<'a, L: Named>(board: &MemoryBoard<'a, L>, span: Span) -> bool {
 }
 
 // A deposit, of which its caller compares what it did.
-fn put<'a, L: Named>(
+fn put<'a, L: InputLedger>(
     board: &mut MemoryBoard<'a, L>,
     share: &mut Share<L>,
     done: Done<'a>,
@@ -38,7 +40,7 @@ fn put<'a, L: Named>(
 
 // Deposits what is done. It is taken where its span is open and its plan is the board's; else it comes back by
 // the name of the first of both that does not hold, and neither board nor share has changed.
-fn deposit_checked<'a, L: Named>(
+fn deposit_checked<'a, L: InputLedger>(
     rt: &impl Abort,
     board: &mut MemoryBoard<'a, L>,
     share: &mut Share<L>,
@@ -74,7 +76,7 @@ fn deposit_checked<'a, L: Named>(
 }
 
 // Deposits span `i` of the plan twice, where the plan has so many.
-fn deposit_twice<'a, L: Named, R: Wait + Abort>(
+fn deposit_twice<'a, L: InputLedger, R: Wait + Abort>(
     rt: &R,
     board: &Mutex<MemoryBoard<'a, L>>,
     share: &mut Share<L>,
@@ -93,7 +95,7 @@ fn deposit_twice<'a, L: Named, R: Wait + Abort>(
 }
 
 // Deposits span `i` of each of these plans twice.
-fn deposit_strangers<'a, L: Named, R: Wait + Abort>(
+fn deposit_strangers<'a, L: InputLedger, R: Wait + Abort>(
     rt: &R,
     board: &Mutex<MemoryBoard<'a, L>>,
     share: &mut Share<L>,
@@ -106,7 +108,7 @@ fn deposit_strangers<'a, L: Named, R: Wait + Abort>(
 }
 
 // Deposits what the board's own plan gives, and plans of strangers.
-fn deposit_all<'a, L: Named, R: Wait + Abort>(
+fn deposit_all<'a, L: InputLedger, R: Wait + Abort>(
     rt: &R,
     board: &Mutex<MemoryBoard<'a, L>>,
     share: &mut Share<L>,
@@ -120,7 +122,7 @@ fn deposit_all<'a, L: Named, R: Wait + Abort>(
 }
 
 // Runs the two beside one another, and gives what both hold after it.
-fn work_beside<'a, L: Named + Send + Sync, R: Threads + Wait + Abort + Sync>(
+fn work_beside<'a, L: InputLedger + Send + Sync, R: Threads + Wait + Abort + Sync>(
     rt: &R,
     alloc: Global,
     board: &Mutex<MemoryBoard<'a, L>>,
@@ -140,7 +142,7 @@ fn work_beside<'a, L: Named + Send + Sync, R: Threads + Wait + Abort + Sync>(
     Ok((ended, theirs))
 }
 
-fn beside_on<'a, L: Named + Send + Sync, R: Threads + Wait + Abort + Sync>(
+fn beside_on<'a, L: InputLedger + Send + Sync, R: Threads + Wait + Abort + Sync>(
     rt: &R,
     alloc: Global,
     plan: &Plan<'a>,
@@ -208,7 +210,7 @@ fn an_honest_worker_beside_a_hostile_one(rt: HostRuntime) -> Result<(), Fail> {
 }
 
 // Deposits all spans of a plan that is not the board's: none is taken.
-fn deposit_in_vain<'a, L: Named>(
+fn deposit_in_vain<'a, L: InputLedger>(
     rt: &impl Abort,
     board: &mut MemoryBoard<'a, L>,
     share: &mut Share<L>,
@@ -222,7 +224,7 @@ fn deposit_in_vain<'a, L: Named>(
 }
 
 // A board takes one of its spans once and nothing of other plans, and sweeps its own input.
-fn alone_on<'a, L: Named>(
+fn alone_on<'a, L: InputLedger>(
     rt: &impl Abort,
     alloc: Global,
     plan: &Plan<'a>,

@@ -6,7 +6,8 @@ ghost use Rattle.b3_board.specs.Seats.{IsSeatOf};
 
 use super::{deposit, open_board, span, sweep};
 use b3_board::{
-    BoardFault, Claims, MemoryBoard, Named, OpenGate, Plan, Seat, Share, default_grain, worker,
+    BoardFault, Claims, InputLedger, MemoryBoard, OpenGate, Plan, Seat, Share, default_grain,
+    worker,
 };
 use b3_core::{Mode, Span};
 use std::alloc::Global;
@@ -59,7 +60,7 @@ fn part_by_cutting<'a>(
 }
 
 // The chunks that a new board of the plan leaves to its sweep.
-fn swept_on<'a, L: Named>(
+fn swept_on<'a, L: InputLedger>(
     rt: &impl Abort,
     alloc: Global,
     plan: &Plan<'a>,
@@ -124,7 +125,7 @@ pub(super) fn last_growth(alloc: Global) -> Result<(), BoardFault> {
 }
 
 // A share of all parts is split and joined, and audited. One part is handed over.
-fn share_calls<'a, L: Named>(
+fn share_calls<'a, L: InputLedger>(
     rt: &impl Abort,
     board: &mut MemoryBoard<'a, L>,
     share: &mut Share<L>,
@@ -137,7 +138,7 @@ fn share_calls<'a, L: Named>(
 }
 
 // The readers of a plan of three chunks, of what is done, of a board with nothing left to do, and of its root.
-fn reader_calls<'a, L: Named>(rt: &impl Abort, plan: &Plan<'a>, board: &MemoryBoard<'a, L>) {
+fn reader_calls<'a, L: InputLedger>(rt: &impl Abort, plan: &Plan<'a>, board: &MemoryBoard<'a, L>) {
     assert_eq!(rt;
         (plan.input().len(), plan.first(), plan.len()),
         (3000, 0, 3)
@@ -158,7 +159,7 @@ fn reader_calls<'a, L: Named>(rt: &impl Abort, plan: &Plan<'a>, board: &MemoryBo
 
 // A worker goes through the spans, its seat is joined, and the claims are closed. How many chunks it deposited, and how
 // many claims there were.
-fn claim_calls<'a, L: Named, R: Wait + Abort>(
+fn claim_calls<'a, L: InputLedger, R: Wait + Abort>(
     rt: &R,
     plan: &Plan<'a>,
     board: &Mutex<MemoryBoard<'a, L>>,
@@ -180,7 +181,7 @@ fn claim_calls<'a, L: Named, R: Wait + Abort>(
 // Makes a board and claims, then perhaps calls everything that is said to take no memory: seats and shares are split
 // and joined, the share is audited, work is deposited and refused, a worker runs, the board is swept and the claims
 // are closed.
-fn growths_on<'a, L: Named, R: Wait + Abort>(
+fn growths_on<'a, L: InputLedger, R: Wait + Abort>(
     rt: &R,
     alloc: Global,
     plan: &Plan<'a>,

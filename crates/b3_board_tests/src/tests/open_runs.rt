@@ -1,7 +1,7 @@
 // Runs behind gates that wait.
 
-use super::meeting::{AllAtOnce, TURNS};
 use super::memory::{by_cutting, by_grain};
+use super::rendezvous::{AllAtOnce, TURNS};
 use super::workers::{assert_report, run};
 use super::{pattern, span};
 use b3_board::Gate;
@@ -22,8 +22,8 @@ fn all_workers_at_once(rt: HostRuntime) -> Result<(), Fail> {
         let plan = by_grain(rt.alloc(), part, 64)?;
         let gate = AllAtOnce::new(workers);
         let report = run(&rt, rt.alloc(), &plan, workers, &gate)?;
-        assert!(&rt; gate.workers.have_met(), "{workers} workers");
-        assert_eq!(&rt; gate.workers.guests().count_ones(), workers);
+        assert!(&rt; gate.workers.is_complete(), "{workers} workers");
+        assert_eq!(&rt; gate.workers.arrived().count_ones(), workers);
         assert_report(&rt, &report, part, 0, plan.len(), workers);
     }
     Ok(())
@@ -38,7 +38,7 @@ fn numbers_of_workers_and_of_spans(rt: HostRuntime) -> Result<(), Fail> {
     let gate = AllAtOnce::new(2);
     run(&rt, rt.alloc(), &plan, 2, &gate)?;
     assert_eq!(&rt;
-        (gate.workers.guests(), gate.spans(), gate.calls()),
+        (gate.workers.arrived(), gate.spans(), gate.calls()),
         (0b11, 0xff, 8)
     );
     Ok(())

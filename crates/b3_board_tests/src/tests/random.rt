@@ -9,13 +9,13 @@ use std::alloc::{AllocError, Global};
 use std::process::Abort;
 use std::test::Fail;
 
-// A row of numbers that look like chance.
+// A generator of numbers that look random.
 #[derive(Drop)]
-pub struct Chance {
+pub struct Rng {
     pub state: u64,
 }
 
-impl Chance {
+impl Rng {
     // The next number below `bound`.
     pub fn below(&mut self, bound: u64) -> u64
         requires { 0 < bound }
@@ -29,11 +29,11 @@ impl Chance {
     }
 }
 
-// Cuts a subtree into smaller ones, as chance has it: one in `whole` is not cut further.
+// Cuts a subtree into smaller ones, at random: one in `whole` is not cut further.
 pub fn cut_at_random(
     rt: &impl Abort,
     alloc: Global,
-    chance: &mut Chance,
+    rng: &mut Rng,
     n: u64,
     whole: u64,
 ) -> Result<Vec<Span>, AllocError>
@@ -46,7 +46,7 @@ pub fn cut_at_random(
         let Some(next) = rest.pop() else {
             break;
         };
-        if next.count > 1 && chance.below(whole) > 0 {
+        if next.count > 1 && rng.below(whole) > 0 {
             let count = left(next.count);
             assert!(rt; next.first < 1 << 20 && count < next.count && next.count <= 1 << 20);
             rest.push(span(next.first + count, next.count - count))?;
@@ -60,29 +60,29 @@ pub fn cut_at_random(
 
 // A length, and one in how many subtrees is not cut further. The first turn has 1,024 spans; of the others most
 // are small, so that the test ends soon however it is compiled.
-fn lengths_at_random(chance: &mut Chance, turn: usize) -> (usize, u64)
+fn lengths_at_random(rng: &mut Rng, turn: usize) -> (usize, u64)
     ensures whole { 0 < result.1 }
 {
     if turn == 0 {
         return (1 << 20, 1 << 32);
     }
     let greatest = if turn % 100 == 0 { 1 << 20 } else { 1 << 15 };
-    let most = 1 + chance.below(greatest);
-    let bound = 1 + chance.below(most);
-    (1 + chance.below(bound) as usize, 8)
+    let most = 1 + rng.below(greatest);
+    let bound = 1 + rng.below(most);
+    (1 + rng.below(bound) as usize, 8)
 }
 
 #[test]
 fn random_cuttings_and_orders(rt: HostRuntime) -> Result<(), Fail> {
     let alloc = rt.alloc();
     let input = pattern(alloc, 1024 * 1024)?;
-    let mut chance = Chance { state: 1 };
+    let mut rng = Rng { state: 1 };
     for turn in 0..1000usize {
-        let (len, whole) = lengths_at_random(&mut chance, turn);
+        let (len, whole) = lengths_at_random(&mut rng, turn);
         assert!(&rt; len <= input.len());
         let part = &input[..len];
         let n = b3_core::chunks(len as u64);
-        let cutting = cut_at_random(&rt, alloc, &mut chance, n, whole)?;
+        let cutting = cut_at_random(&rt, alloc, &mut rng, n, whole)?;
         let plan = by_cutting(alloc, part, &cutting)?;
         assert!(&rt; turn > 0 || plan.len() == 1024);
         let mut order = Vec::with_capacity(alloc, plan.len())?;
@@ -90,7 +90,7 @@ fn random_cuttings_and_orders(rt: HostRuntime) -> Result<(), Fail> {
             order.push(i)?;
         }
         for i in 0..order.len() {
-            let other = chance.below(i as u64 + 1) as usize;
+            let other = rng.below(i as u64 + 1) as usize;
             assert!(&rt; other < order.len());
             order.swap(i, other);
         }

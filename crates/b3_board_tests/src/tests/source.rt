@@ -2,9 +2,9 @@
 
 ghost use Rattle.std.specs.Prelude.{◌≡◌, ℕ, ◌+◌, ◌≤◌, List, drop, length, take, Some, None};
 
-use super::meeting::{AllAtOnce, Meeting, Yielding};
 use super::memory::last_growth;
 use super::pattern;
+use super::rendezvous::{AllAtOnce, Rendezvous, Yielding};
 use super::workers::assert_report;
 use b3_board::{BoardFault, Gate, OpenGate, Report, Source, hash_source};
 use b3_core::{CHUNK_LEN, Mode, chunks};
@@ -15,15 +15,15 @@ use std::sync::atomic::{AtomicU64, Ordering};
 use std::test::Fail;
 use std::thread::Threads;
 
-// Copies bytes from a place on, as many as are there and the room takes, and gives their number.
-fn read_bytes(bytes: &[u8], place: u64, room: &mut [u8]) -> usize
-    ensures within { result ≤ length room.old }
-    ensures bytes { take result room.new ≡ take result (drop place bytes.now) }
-    ensures whole { place + length room.old ≤ length bytes.now → result ≡ length room.old }
+// Copies bytes from a place on, as many as are there and the buffer takes, and gives their number.
+fn read_bytes(bytes: &[u8], place: u64, buffer: &mut [u8]) -> usize
+    ensures within { result ≤ length buffer.old }
+    ensures bytes { take result buffer.new ≡ take result (drop place bytes.now) }
+    ensures whole { place + length buffer.old ≤ length bytes.now → result ≡ length buffer.old }
 {
     let rest = &bytes[bytes.len().min(place as usize)..];
-    let count = rest.len().min(room.len());
-    room[..count].copy_from_slice(&rest[..count]);
+    let count = rest.len().min(buffer.len());
+    buffer[..count].copy_from_slice(&rest[..count]);
     count
 }
 
@@ -58,14 +58,14 @@ struct Silent<'a> {
     reads: AtomicU64,
     bad: u64,
     how: Bad,
-    readers: Meeting,
+    readers: Rendezvous,
 }
 
 impl<'a> Silent<'a> {
     // No read is bad.
     fn good(bytes: &'a [u8], wanted: u32) -> Silent<'a> {
         Silent {
-            readers: Meeting::new(wanted),
+            readers: Rendezvous::new(wanted),
             ..Silent::new(bytes, u64::MAX, Bad::Refused)
         }
     }
@@ -76,7 +76,7 @@ impl<'a> Silent<'a> {
             reads: AtomicU64::new(0),
             bad,
             how,
-            readers: Meeting::new(0),
+            readers: Rendezvous::new(0),
         }
     }
 }
@@ -89,7 +89,7 @@ impl<'a> Source for Silent<'a> {
     fn read_at(&self, offset: u64, buffer: &mut [u8]) -> Option<usize> {
         let count = read_bytes(self.bytes, offset, buffer);
         let read = self.reads.fetch_add(1, Ordering::SeqCst);
-        self.readers.attend(read);
+        self.readers.arrive(read);
         if read != self.bad {
             return Some(count);
         }
@@ -109,7 +109,7 @@ fn hash_part<R: Threads + Wait + Sync, S: Source + Sync, G: Gate + Sync>(
     len: u64,
     grain: u64,
     workers: u32,
-    room: &mut [u8],
+    buffer: &mut [u8],
     gate: &G,
 ) -> Result<Option<Report>, BoardFault>
     requires { (all : List ℕ) → S.told source.now ≡ Some all → place + len ≤ length all }
@@ -119,7 +119,7 @@ fn hash_part<R: Threads + Wait + Sync, S: Source + Sync, G: Gate + Sync>(
     let first = place / CHUNK_LEN as u64;
     let mode = Mode::hash();
     hash_source(
-        rt, alloc, source, place, len, mode, first, grain, workers, room, gate,
+        rt, alloc, source, place, len, mode, first, grain, workers, buffer, gate,
     )
 }
 
@@ -133,8 +133,8 @@ fn read_part<R: Threads + Wait + Sync, G: Gate + Sync>(
     workers: u32,
     gate: &G,
 ) -> Result<Option<Report>, BoardFault> {
-    let mut room = [0; 64 * 2048];
-    hash_part(rt, alloc, source, place, len, 2, workers, &mut room, gate)
+    let mut buffer = [0; 64 * 2048];
+    hash_part(rt, alloc, source, place, len, 2, workers, &mut buffer, gate)
 }
 
 // The report of spans of two chunks.
@@ -193,7 +193,7 @@ fn each_length_of_a_region_after_another(rt: HostRuntime) -> Result<(), Fail> {
     assert_lengths(&rt, rt.alloc(), 8 * 1024, &Yielding)
 }
 
-// Bytes that are not there are not made up, and a room that is shorter than a span takes none.
+// Bytes that are not there are not made up, and a buffer that is shorter than a span takes none.
 #[test]
 fn too_few_bytes(rt: HostRuntime) -> Result<(), Fail> {
     let input = pattern(rt.alloc(), 9 * 1024)?;
@@ -202,7 +202,7 @@ fn too_few_bytes(rt: HostRuntime) -> Result<(), Fail> {
         let found = read_part(&rt, rt.alloc(), &source, 0, len, 2, &OpenGate)?;
         assert!(&rt; found.is_none(), "{len} bytes");
     }
-    let mut room = [0; 2047];
+    let mut buffer = [0; 2047];
     let found = hash_part(
         &rt,
         rt.alloc(),
@@ -211,20 +211,30 @@ fn too_few_bytes(rt: HostRuntime) -> Result<(), Fail> {
         9 * 1024,
         2,
         1,
-        &mut room,
+        &mut buffer,
         &OpenGate,
     )?;
     assert!(&rt; found.is_none());
     Ok(())
 }
 
-// No more workers run than the room has spans for: one here, of four.
+// No more workers run than the buffer has spans for: one here, of four.
 #[test]
 fn a_room_for_one_span(rt: HostRuntime) -> Result<(), Fail> {
     let bytes = [7; 9000];
     let told = Told { bytes: &bytes };
-    let mut room = [0; 4095];
-    let found = hash_part(&rt, rt.alloc(), &told, 0, 9000, 2, 4, &mut room, &Yielding)?;
+    let mut buffer = [0; 4095];
+    let found = hash_part(
+        &rt,
+        rt.alloc(),
+        &told,
+        0,
+        9000,
+        2,
+        4,
+        &mut buffer,
+        &Yielding,
+    )?;
     let report = found.expect(&rt, "a root");
     assert_eq!(&rt; report.shares.as_slice(), [9u64, 0, 0, 0].as_slice());
     assert_read(&rt, Some(report), &bytes, 0, 4);
@@ -284,8 +294,18 @@ fn each_read_fails(rt: HostRuntime) -> Result<(), Fail> {
 fn told_or_not(rt: HostRuntime) -> Result<(), Fail> {
     let bytes = [7; 5000];
     let told = Told { bytes: &bytes };
-    let mut room = [0; 3 * 2048];
-    let found = hash_part(&rt, rt.alloc(), &told, 0, 5000, 2, 3, &mut room, &OpenGate)?;
+    let mut buffer = [0; 3 * 2048];
+    let found = hash_part(
+        &rt,
+        rt.alloc(),
+        &told,
+        0,
+        5000,
+        2,
+        3,
+        &mut buffer,
+        &OpenGate,
+    )?;
     assert_read(&rt, found, &bytes, 0, 3);
     let silent = Silent::good(&bytes, 0);
     let found = read_part(&rt, rt.alloc(), &silent, 0, 5000, 3, &OpenGate)?;
@@ -302,13 +322,13 @@ fn workers_at_once_over_a_source(rt: HostRuntime) -> Result<(), Fail> {
         let len = part.len() as u64;
         let source = Silent::good(part, workers);
         let found = read_part(&rt, rt.alloc(), &source, 0, len, workers, &OpenGate)?;
-        assert!(&rt; source.readers.have_met(), "{workers} readers");
+        assert!(&rt; source.readers.is_complete(), "{workers} readers");
         assert_read(&rt, found, part, 0, workers);
 
         let source = Silent::good(part, 0);
         let gate = AllAtOnce::new(workers);
         let found = read_part(&rt, rt.alloc(), &source, 0, len, workers, &gate)?;
-        assert!(&rt; gate.workers.have_met(), "{workers} workers");
+        assert!(&rt; gate.workers.is_complete(), "{workers} workers");
         let report = found.expect(&rt, "a root");
         for share in report.shares.iter() {
             assert_eq!(&rt; *share, 2, "{workers} workers");

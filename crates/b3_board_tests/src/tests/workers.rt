@@ -3,12 +3,12 @@
 ghost use Rattle.std.specs.Prelude.{◌≡◌};
 ghost use Rattle.b3_board.specs.Plans.{IsPlanOf};
 
-use super::meeting::{AllAtOnce, Yielding};
 use super::memory::{by_cutting, by_grain, last_growth};
-use super::random::{Chance, cut_at_random};
+use super::random::{Rng, cut_at_random};
+use super::rendezvous::{AllAtOnce, Yielding};
 use super::{DIGEST_OF_0, assert_digest, assert_root, open_board, pattern};
 use b3_board::{
-    BoardFault, Claims, Ended, Gate, MemoryBoard, Named, OpenGate, Plan, Report, Share,
+    BoardFault, Claims, Ended, Gate, InputLedger, MemoryBoard, OpenGate, Plan, Report, Share,
     hash_parallel, worker,
 };
 use b3_core::{Mode, chunks, top};
@@ -99,9 +99,9 @@ fn two_at_once(rt: HostRuntime) -> Result<(), Fail> {
     let plan = by_grain(rt.alloc(), &input, 16)?;
     let gate = AllAtOnce::new(2);
     let report = run(&rt, rt.alloc(), &plan, 2, &gate)?;
-    assert!(&rt; gate.workers.have_met());
+    assert!(&rt; gate.workers.is_complete());
     assert_eq!(&rt;
-        (gate.workers.guests(), gate.spans(), gate.calls()),
+        (gate.workers.arrived(), gate.spans(), gate.calls()),
         (0b11, 0b11, 2)
     );
     assert_report(&rt, &report, &input, 0, 2, 2);
@@ -113,13 +113,13 @@ fn two_at_once(rt: HostRuntime) -> Result<(), Fail> {
 fn random_cuttings_and_workers(rt: HostRuntime) -> Result<(), Fail> {
     let alloc = rt.alloc();
     let input = pattern(alloc, 100 * 1024)?;
-    let mut chance = Chance { state: 12 };
+    let mut rng = Rng { state: 12 };
     for _ in 0..100usize {
-        let greatest = 1 + chance.below(100 * 1024);
-        let len = chance.below(greatest) as usize;
+        let greatest = 1 + rng.below(100 * 1024);
+        let len = rng.below(greatest) as usize;
         assert!(&rt; len <= input.len());
         let part = &input[..len];
-        let cutting = cut_at_random(&rt, alloc, &mut chance, chunks(len as u64), 8)?;
+        let cutting = cut_at_random(&rt, alloc, &mut rng, chunks(len as u64), 8)?;
         let plan = by_cutting(alloc, part, &cutting)?;
         for workers in [1u32, 2, 4, 64] {
             let report = run(&rt, alloc, &plan, workers, &OpenGate)?;
@@ -170,7 +170,7 @@ fn refused_memory_of_a_run(rt: HostRuntime) -> Result<(), Fail> {
 }
 
 // What a worker alone leaves.
-fn work_alone<'a, L: Named, R: Wait>(
+fn work_alone<'a, L: InputLedger, R: Wait>(
     rt: &R,
     alloc: Global,
     plan: &Plan<'a>,
@@ -183,7 +183,7 @@ fn work_alone<'a, L: Named, R: Wait>(
 
 // A worker alone deposits every span of the board's plan, and none of a plan over other bytes, which it claims all the
 // same.
-fn alone_on<'a, L: Named, R: Wait + Abort>(
+fn alone_on<'a, L: InputLedger, R: Wait + Abort>(
     rt: &R,
     alloc: Global,
     plan: &Plan<'a>,

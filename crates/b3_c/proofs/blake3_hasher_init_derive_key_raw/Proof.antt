@@ -1,5 +1,5 @@
 -- `blake3_hasher_init_derive_key_raw` meets its contract: a walk of its MIR, by hand. The new hasher is written into the room at the pointer.
-use Rattle.b3_c.proofs.Steps.{[], ◌∷◌, ◌++◌, refl, proved, full_share, sep, id⊢, ftrue, flft, named, vunit, WpFn, fact, tables, sem, ‵, raw, ◌⊛◌, some, later, prop, ◌$◌, ◌∵◌, !, qed, done, move, keep, drop, use1, use2, split, join, feq_i, pick, show, await, regoal, suffices, frame, group, enter, of_opd, unit_lit, stop, no_more, and_then, returns, alloc_all, pass_all, free_all, look_at, get, through, sets, lands_as, assigns, init, u8, yes, Is, shows, Ptr, RawPtr, block_ptr, lies_at, room_at, in_a_block, rawptr_vals, rawptr_Tells, ShrSlice, shr_slice_vals, shr_slice_Tells, plain, nothing, heard, peeks, calls_at, lasts, triple_of, Stays, walk_of, says, stay_dropped, Goes-dropped, ends_at, framed, HasherRow, State}
+use Rattle.b3_c.proofs.Steps.{[], ◌∷◌, ◌++◌, refl, proved, full_share, sep, id⊢, ftrue, flft, named, vunit, WpFn, fact, tables, sem, ‵, raw, ◌⊛◌, some, later, prop, ◌$◌, ◌∵◌, !, qed, done, move, keep, drop, use1, use2, split, join, feq_i, pick, show, await, regoal, suffices, frame, group, enter, of_opd, unit_lit, stop, no_more, and_then, returns, alloc_all, pass_all, free_all, look_at, get, through, sets, lands_as, assigns, init, u8, yes, Is, shows, Ptr, RawPtr, block_ptr, lies_at, room_at, in_a_block, rawptr_vals, rawptr_Tells, ShrSlice, shr_slice_vals, shr_slice_Tells, plain, nothing, heard, peeks, calls_at, lasts, triple_of, Stays, walk_of, says, stay_dropped, Goes-dropped, ends_at, framed, HasherRow, HasherState}
 use denote.Builtin.{SliceRefOf}
 use Rattle.b3_c.proofs.Pointers.{placed}
 use Rattle.b3_c.specs.Calls.{IsNew}
@@ -34,7 +34,7 @@ blake3_hasher_init_derive_key_raw_spec 𝓤 𝓛 𝓜 𝓡 wired =
     nothing ! $ move ! (2 ∷ 0 ∷ []) $ join ! $ nothing ! $ move ! (3 ∷ 0 ∷ []) $ join ! $ join ! $
     nothing ! $ move ! (1 ∷ 0 ∷ []) $ use2 𝓛 (raw (G.pre z)) (id⊢ 𝓤 _) $
     calls_at ! (framed 𝓤 𝓛.H 𝓜 𝓣) G (met 𝓤 𝓛 𝓜 𝓡 (code.calls-b3_c::calls::deriving_hasher 𝓡.env wired)) z (and_then ! (get ! refl) (no_more !)) (λ v.
-    use1 𝓛 (later (some (λ (t : State). ((‵ (flft κ q) ⊛ ‵ ftrue) ⊛ ‵ (R.own_val t (v ∷ []))) ⊛
+    use1 𝓛 (later (some (λ (t : HasherState). ((‵ (flft κ q) ⊛ ‵ ftrue) ⊛ ‵ (R.own_val t (v ∷ []))) ⊛
     some (λ (ws : Unit {0} × Unit {0}). ‵ (lasts g.ended z.0.0 z.0.3 ws) ⊛ raw (fact 𝓤 (IsNew (derived_mode given.now) t)))))) (id⊢ 𝓤 _) $
     await ! tt $ pick ! (λ t. split ! $ split ! $ move ! (2 ∷ []) $ pick ! (λ ws. split ! $ drop ! $ heard ! _ (λ is_new.
     -- [the token; the hasher's parts; the room]
@@ -48,4 +48,4 @@ blake3_hasher_init_derive_key_raw_spec 𝓤 𝓛 𝓜 𝓡 wired =
     -- [the token; the hasher]
     suffices ! _ (ends_at 𝓛 f.ended stayed c (y (block_ptr b o)) vunit tt (tt, (tt, tt)) (tt, (tt, tt))) $
     feq_i ! _ (vunit ∷ []) _ refl $ nothing ! $ nothing ! $ join ! $ nothing ! $ join ! $ move ! (2 ∷ 0 ∷ 1 ∷ []) $ group ! 3 $ frame ! $
-    show ! (λ (t : State). sep 𝓤 (sem 𝓛 (lies_at R full_share (block_ptr b o) t)) (fact 𝓤 (IsNew (derived_mode given.now) t))) t $ says ! is_new $ done !))))))))
+    show ! (λ (t : HasherState). sep 𝓤 (sem 𝓛 (lies_at R full_share (block_ptr b o) t)) (fact 𝓤 (IsNew (derived_mode given.now) t))) t $ says ! is_new $ done !))))))))

@@ -1,5 +1,5 @@
 -- `blake3_hasher_update` meets its contract: a walk of its MIR, by hand. The hasher is lent for a lifetime that is made for the call of `append`, and comes back once it is ended.
-use Rattle.b3_c.proofs.Steps.{[], ◌∷◌, ◌++◌, refl, ap, proved, full_share, sep, id⊢, ftrue, flft, named, vunit, vptr, WpFn, fact, tables, sem, ‵, raw, ◌⊛◌, some, later, prop, ◌$◌, ◌∵◌, !, qed, done, move, keep, use1, use2, split, join, fsplit, feq_i, feq_l, pick, show, await, regoal, suffices, frame, group, enter, of_opd, unit_lit, addr, stop, no_more, and_then, returns, alloc_all, pass_all, free_all, look_at, get, through, sets, lands_as, lft_end, u8, unit, yes, Ptr, RawPtr, block_ptr, lies_at, in_a_block, rawptr_vals, rawptr_Tells, ShrSlice, shr_slice_vals, shr_slice_Tells, plain, nothing, heard, only, calls_at, lasts, triple_of, Stays, walk_of, says, stay_dropped, Goes-dropped, ends_at, framed, HasherRow, State}
+use Rattle.b3_c.proofs.Steps.{[], ◌∷◌, ◌++◌, refl, ap, proved, full_share, sep, id⊢, ftrue, flft, named, vunit, vptr, WpFn, fact, tables, sem, ‵, raw, ◌⊛◌, some, later, prop, ◌$◌, ◌∵◌, !, qed, done, move, keep, use1, use2, split, join, fsplit, feq_i, feq_l, pick, show, await, regoal, suffices, frame, group, enter, of_opd, unit_lit, addr, stop, no_more, and_then, returns, alloc_all, pass_all, free_all, look_at, get, through, sets, lands_as, lft_end, u8, unit, yes, Ptr, RawPtr, block_ptr, lies_at, in_a_block, rawptr_vals, rawptr_Tells, ShrSlice, shr_slice_vals, shr_slice_Tells, plain, nothing, heard, only, calls_at, lasts, triple_of, Stays, walk_of, says, stay_dropped, Goes-dropped, ends_at, framed, HasherRow, HasherState}
 use denote.Builtin.{SliceRefOf}
 use Rattle.b3_c.specs.Calls.{IsAppended}
 use Rattle.b3_c.proofs.Pointers.{lends, comes_back}
@@ -38,7 +38,7 @@ blake3_hasher_update_spec 𝓤 𝓛 𝓜 𝓡 wired =
     calls_at ! (framed 𝓤 𝓛.H 𝓜 𝓣) G (met 𝓤 𝓛 𝓜 𝓡 (code.calls-b3_c::calls::append 𝓡.env wired)) z
     (and_then ! (get ! refl) (and_then ! (get ! refl) (no_more !))) (λ v.
     use1 𝓛 (later (some (λ (u : Unit {0}). ((‵ (flft (α ∷ []) full_share) ⊛ ‵ (flft κ q) ⊛ ‵ ftrue) ⊛ ‵ (unit.own_val u (v ∷ []))) ⊛
-    some (λ (ws : State × (Unit {0} × Unit {0})). ‵ (lasts g.ended z.0.0 z.0.3 ws) ⊛ raw (fact 𝓤 (IsAppended s input.now ws.0)))))) (id⊢ 𝓤 _) $
+    some (λ (ws : HasherState × (Unit {0} × Unit {0})). ‵ (lasts g.ended z.0.0 z.0.3 ws) ⊛ raw (fact 𝓤 (IsAppended s input.now ws.0)))))) (id⊢ 𝓤 _) $
     await ! tt $ pick ! (λ u. split ! $ split ! $ split ! $ lft_end ! tt $ move ! (2 ∷ []) $ feq_l ! (λ is_unit.
     lands_as ! (ap only is_unit) refl (tt, tt) $
     -- [α is over; the token of κ; the last values; the lender's part]
@@ -50,4 +50,4 @@ blake3_hasher_update_spec 𝓤 𝓛 𝓜 𝓡 wired =
     suffices ! _ (ends_at 𝓛 f.ended stayed c (y (block_ptr b o)) vunit tt (tt, (tt, tt)) (tt, (tt, tt))) $
     -- [the tokens; the hasher]
     feq_i ! _ (vunit ∷ []) _ refl $ nothing ! $ nothing ! $ join ! $ nothing ! $ join ! $ move ! (2 ∷ 0 ∷ 1 ∷ []) $ group ! 3 $ frame ! $
-    show ! (λ (t : State). sep 𝓤 (sem 𝓛 (lies_at R full_share (block_ptr b o) t)) (fact 𝓤 (IsAppended s input.now t))) ws.0 $ says ! appended $ done !)))))))))
+    show ! (λ (t : HasherState). sep 𝓤 (sem 𝓛 (lies_at R full_share (block_ptr b o) t)) (fact 𝓤 (IsAppended s input.now t))) ws.0 $ says ! appended $ done !)))))))))

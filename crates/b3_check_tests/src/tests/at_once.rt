@@ -4,7 +4,7 @@
 use crate::tests::contents::{line_of, pattern};
 use crate::tests::ended::{Ended, check, check_behind, sum, sum_behind};
 use crate::tests::lettered_files::{Access, LetteredFiles};
-use crate::tests::meeting::{AllAtOnce, Meeting};
+use crate::tests::rendezvous::{AllAtOnce, Rendezvous};
 use crate::tests::{ONE_BYTE, check_options, options, tally};
 use b3_check::{CheckOptions, SumOptions};
 use std::alloc::Global;
@@ -37,8 +37,8 @@ fn assert_passed(
     text: &str,
 ) {
     ended.assert(rt, text, Ok(tally(1, 0, 0)), text.as_bytes(), b"");
-    assert!(rt; gate.workers.have_met(), "{workers} workers");
-    assert_eq!(rt; gate.workers.guests(), workers);
+    assert!(rt; gate.workers.is_complete(), "{workers} workers");
+    assert_eq!(rt; gate.workers.arrived(), workers);
     assert_eq!(rt; gate.calls(), spans, "{workers} workers");
 }
 
@@ -87,15 +87,15 @@ fn assert_asked<R: Abort + Threads + Wait + Sync>(
         verdicts.push_str(": OK\n")?;
     }
     let mut shelf = LetteredFiles::new(alloc, &kept, b"", access);
-    shelf.readers = Meeting::new(workers);
+    shelf.readers = Rendezvous::new(workers);
     let ended = sum(rt, alloc, &mut shelf, &names, &sum_by(workers))?;
     ended.assert(rt, name, Ok(tally(files, 0, 0)), lines.as_bytes(), b"");
-    assert!(rt; shelf.readers.have_met(), "{workers} workers");
+    assert!(rt; shelf.readers.is_complete(), "{workers} workers");
     let mut shelf = LetteredFiles::new(alloc, &kept, lines.as_bytes(), access);
-    shelf.readers = Meeting::new(workers);
+    shelf.readers = Rendezvous::new(workers);
     let ended = check(rt, alloc, &mut shelf, &["l"], &check_by(workers))?;
     ended.assert(rt, name, Ok(tally(files, 0, 0)), verdicts.as_bytes(), b"");
-    assert!(rt; shelf.readers.have_met(), "{workers} workers");
+    assert!(rt; shelf.readers.is_complete(), "{workers} workers");
     Ok(())
 }
 

@@ -50,7 +50,7 @@ impl Shelf for FailingShelf {
         Ok(())
     }
 
-    fn read(&mut self, room: &mut [u8]) -> Result<usize, CannotRead> {
+    fn read(&mut self, buffer: &mut [u8]) -> Result<usize, CannotRead> {
         if !self.is_begun {
             return Ok(0);
         }
@@ -59,7 +59,7 @@ impl Shelf for FailingShelf {
             self.faults += 1;
             return Err(CannotRead);
         }
-        self.files.read(room)
+        self.files.read(buffer)
     }
 }
 
@@ -93,11 +93,11 @@ impl Shelf for EndlessFile {
         Ok(())
     }
 
-    fn read(&mut self, room: &mut [u8]) -> Result<usize, CannotRead> {
+    fn read(&mut self, buffer: &mut [u8]) -> Result<usize, CannotRead> {
         if !self.is_begun {
             return Ok(0);
         }
-        room[0] = b'x';
+        buffer[0] = b'x';
         Ok(1)
     }
 }

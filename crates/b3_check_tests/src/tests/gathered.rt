@@ -56,8 +56,8 @@ impl Shelf for EmptyFiles<'_> {
         Ok(())
     }
 
-    fn read(&mut self, room: &mut [u8]) -> Result<usize, CannotRead> {
-        let count = give(self.rest, usize::MAX, room);
+    fn read(&mut self, buffer: &mut [u8]) -> Result<usize, CannotRead> {
+        let count = give(self.rest, usize::MAX, buffer);
         self.rest = self.rest.get(count..).unwrap_or(b"");
         Ok(count)
     }
@@ -65,8 +65,8 @@ impl Shelf for EmptyFiles<'_> {
     fn hash_whole(
         &self,
         name: &str,
-        _longest: u64,
-        _room: &mut [u8],
+        _max_len: u64,
+        _buffer: &mut [u8],
         _hasher: &mut Hasher,
     ) -> bool {
         if name == "late" {

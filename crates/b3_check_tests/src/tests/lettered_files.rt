@@ -2,8 +2,8 @@
 
 ghost use Rattle.std.specs.Prelude.{◌≡◌, [], None, false};
 
-use crate::tests::meeting::Meeting;
 use crate::tests::recording::give;
+use crate::tests::rendezvous::Rendezvous;
 use b3_check::{CannotRead, NoContent, Shelf};
 use b3_hash::Hasher;
 use std::alloc::Global;
@@ -36,9 +36,9 @@ pub struct LetteredFiles<'a> {
     pub calls_before: u64,
     pub given: Option<usize>,
     /// Where threads that ask at once wait for one another.
-    pub readers: Meeting,
+    pub readers: Rendezvous,
     calls: AtomicU64,
-    longest: AtomicU64,
+    max_len: AtomicU64,
     // the file that is begun: whether it is the list, its bytes, their number, its place, and the reads before one that
     // fails
     is_begun: bool,
@@ -64,9 +64,9 @@ impl<'a> LetteredFiles<'a> {
             hint: None,
             calls_before: u64::MAX,
             given: None,
-            readers: Meeting::new(0),
+            readers: Rendezvous::new(0),
             calls: AtomicU64::new(0),
-            longest: AtomicU64::new(0),
+            max_len: AtomicU64::new(0),
             is_begun: false,
             is_list: false,
             bytes: &[],
@@ -87,8 +87,8 @@ impl<'a> LetteredFiles<'a> {
     }
 
     /// How long a content might have been that was last asked for as a whole.
-    pub fn longest(&self) -> u64 {
-        self.longest.load(Ordering::SeqCst)
+    pub fn max_len(&self) -> u64 {
+        self.max_len.load(Ordering::SeqCst)
     }
 
     // Whether the name was kept among those that were begun.
@@ -152,7 +152,7 @@ impl Shelf for LetteredFiles<'_> {
         Ok(())
     }
 
-    fn read(&mut self, room: &mut [u8]) -> Result<usize, CannotRead> {
+    fn read(&mut self, buffer: &mut [u8]) -> Result<usize, CannotRead> {
         if !self.is_begun {
             return Ok(0);
         }
@@ -164,30 +164,36 @@ impl Shelf for LetteredFiles<'_> {
         self.reads_before -= 1;
         let place = self.place;
         let rest = bytes_from(self.bytes, self.is_list, self.len, place);
-        let count = give(rest, self.most, room);
+        let count = give(rest, self.most, buffer);
         self.place = place.saturating_add(count as u64);
         Ok(count)
     }
 
-    fn hash_whole(&self, name: &str, longest: u64, _room: &mut [u8], hasher: &mut Hasher) -> bool {
+    fn hash_whole(
+        &self,
+        name: &str,
+        max_len: u64,
+        _buffer: &mut [u8],
+        hasher: &mut Hasher,
+    ) -> bool {
         if self.access != Access::Beside || !name.starts_with("g") {
             return false;
         }
-        self.longest.store(longest, Ordering::SeqCst);
+        self.max_len.store(max_len, Ordering::SeqCst);
         self.readers
-            .attend(self.calls.fetch_add(1, Ordering::SeqCst));
+            .arrive(self.calls.fetch_add(1, Ordering::SeqCst));
         let len = number_in(name);
         match self.kept.get(..len as usize) {
-            Some(content) if len <= longest => hasher.update(content).is_ok(),
+            Some(content) if len <= max_len => hasher.update(content).is_ok(),
             _ => false,
         }
     }
 
     // Two bytes are asked for to see where the file ends.
-    fn read_at(&self, place: u64, room: &mut [u8]) -> Option<usize> {
+    fn read_at(&self, place: u64, buffer: &mut [u8]) -> Option<usize> {
         let call = self.calls.fetch_add(1, Ordering::SeqCst);
-        if room.len() > 2 {
-            self.readers.attend(call);
+        if buffer.len() > 2 {
+            self.readers.arrive(call);
         }
         let most = if call == self.calls_before {
             self.given?
@@ -195,7 +201,7 @@ impl Shelf for LetteredFiles<'_> {
             usize::MAX
         };
         let rest = bytes_from(self.bytes, self.is_list, self.len, place);
-        Some(give(rest, most, room))
+        Some(give(rest, most, buffer))
     }
 
     fn len_hint(&self) -> u64 {

@@ -14,23 +14,23 @@ use std::test::Fail;
 #[test]
 fn a_memory_shelf_gives_what_was_put(rt: HostRuntime) -> Result<(), Fail> {
     let mut shelf = MemoryShelf::new(rt.alloc());
-    let mut room = [0; 3];
-    assert_eq!(rt; shelf.read(&mut room), Ok(0));
+    let mut buffer = [0; 3];
+    assert_eq!(rt; shelf.read(&mut buffer), Ok(0));
     shelf.put("a", b"old")?;
     shelf.put("b", b"beta")?;
     shelf.put("a", b"alpha")?;
     assert!(rt; shelf.begin("c").is_err());
     assert_eq!(rt; shelf.begin("a"), Ok(()));
-    assert_eq!(rt; shelf.read(&mut room), Ok(3));
-    assert_eq!(rt; room, *b"alp");
-    assert_eq!(rt; shelf.read(&mut room), Ok(2));
-    assert_eq!(rt; room[..2], b"ha"[..]);
-    assert_eq!(rt; shelf.read(&mut room), Ok(0));
+    assert_eq!(rt; shelf.read(&mut buffer), Ok(3));
+    assert_eq!(rt; buffer, *b"alp");
+    assert_eq!(rt; shelf.read(&mut buffer), Ok(2));
+    assert_eq!(rt; buffer[..2], b"ha"[..]);
+    assert_eq!(rt; shelf.read(&mut buffer), Ok(0));
     assert_eq!(rt; shelf.begin("b"), Ok(()));
-    assert_eq!(rt; shelf.read(&mut room), Ok(3));
-    assert_eq!(rt; room, *b"bet");
+    assert_eq!(rt; shelf.read(&mut buffer), Ok(3));
+    assert_eq!(rt; buffer, *b"bet");
     shelf.put("c", b"")?;
-    assert_eq!(rt; shelf.read(&mut room), Ok(0));
+    assert_eq!(rt; shelf.read(&mut buffer), Ok(0));
     Ok(())
 }
 
@@ -59,17 +59,17 @@ fn is_granted(alloc: Global) -> bool {
 #[test]
 fn a_refused_put_leaves_the_map_as_it_was(rt: HostRuntime) {
     let mut shelf = MemoryShelf::new(rt.alloc());
-    let mut room = [0; 8];
+    let mut buffer = [0; 8];
     let is_put = shelf.put("-", b"old").is_ok();
     let is_other_put = shelf.put("other", b"other").is_ok();
     let is_replaced = shelf.put("-", b"new").is_ok();
-    assert_eq!(rt; shelf.read(&mut room), Ok(0));
+    assert_eq!(rt; shelf.read(&mut buffer), Ok(0));
     assert_eq!(rt; shelf.begin("other").is_ok(), is_other_put);
     assert_eq!(rt; shelf.begin("-").is_ok(), is_put || is_replaced);
     if is_put || is_replaced {
         let content = if is_replaced { b"new" } else { b"old" };
-        assert_eq!(rt; shelf.read(&mut room), Ok(3));
-        assert_eq!(rt; room[..3], content[..]);
+        assert_eq!(rt; shelf.read(&mut buffer), Ok(3));
+        assert_eq!(rt; buffer[..3], content[..]);
     }
     assert!(rt; is_granted(rt.alloc()), "refused after the last call");
 }
@@ -168,10 +168,10 @@ fn growths(rt: &impl Abort, alloc: Global, with_calls: bool) -> Result<(), Fail>
     let text = b"af1349b9f5f9a1a6a0404dea36dcc9499bcb25c9adc112b7cc9a93cae41f3262  x";
     let line = read_line(alloc, text)?;
     if with_calls {
-        let mut room = [1; 2];
+        let mut buffer = [1; 2];
         assert_eq!(rt; shelf.begin("x"), Ok(()));
-        assert_eq!(rt; shelf.read(&mut room), Ok(1));
-        assert_eq!(rt; shelf.read(&mut room), Ok(0));
+        assert_eq!(rt; shelf.read(&mut buffer), Ok(1));
+        assert_eq!(rt; shelf.read(&mut buffer), Ok(0));
         assert!(rt; shelf.begin("none").is_err());
         assert!(rt; MemoryShelf::new(alloc).begin("x").is_err());
         assert!(rt; MemorySink::new(alloc).bytes().is_empty());

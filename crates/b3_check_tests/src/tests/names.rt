@@ -27,7 +27,7 @@ fn hundred_names(alloc: Global) -> Result<Vec<String>, Fail> {
     Ok(names)
 }
 
-// Files of 1 to 3,000 bytes, as chance has it: two in sixteen are not there, and two fail.
+// Files of 1 to 3,000 bytes, at random: two in sixteen are not there, and two fail.
 fn thousand_names(alloc: Global) -> Result<Vec<String>, Fail> {
     let mut names = Vec::new(alloc);
     let mut state = 1u64;
@@ -282,7 +282,7 @@ fn a_fault_comes_after_the_line(rt: HostRuntime) -> Result<(), Fail> {
 #[test]
 fn a_content_beside_others_is_not_too_long(rt: HostRuntime) -> Result<(), Fail> {
     let names = ["g0"; 8];
-    for (count, turns, longest) in [
+    for (count, turns, max_len) in [
         (8usize, 1_000u64, 33_554_432u64),
         (7, 1_000, 2_097_152),
         (2, 1_000, 2_097_152),
@@ -293,7 +293,7 @@ fn a_content_beside_others_is_not_too_long(rt: HostRuntime) -> Result<(), Fail> 
         let names = &names[..count.min(8)];
         let ended = sum(&rt, rt.alloc(), &mut shelf, names, &options(turns, 0))?;
         assert_eq!(&rt; ended.answer, Ok(tally(count as u64, 0, 0)));
-        assert_eq!(&rt; shelf.longest(), longest, "{count} names, {turns} reads");
+        assert_eq!(&rt; shelf.max_len(), max_len, "{count} names, {turns} reads");
     }
     Ok(())
 }

@@ -37,13 +37,13 @@ const REASONS: [&str; 12] = [
     " computed checksum did NOT match\n",
 ];
 
-// A row of numbers that look like chance.
+// A generator of numbers that look random.
 #[derive(Drop)]
-pub struct Chance {
+pub struct Rng {
     pub state: u64,
 }
 
-impl Chance {
+impl Rng {
     // The next number below `bound`.
     fn below(&mut self, bound: u64) -> u64
         requires { 0 < bound }
@@ -91,23 +91,23 @@ impl Chance {
     }
 }
 
-fn bytes_at_random(alloc: Global, chance: &mut Chance, most: u64) -> Result<Vec<u8>, Fail>
+fn bytes_at_random(alloc: Global, rng: &mut Rng, most: u64) -> Result<Vec<u8>, Fail>
     requires { 0 < most }
 {
     let mut bytes = Vec::new(alloc);
-    for _ in 0..chance.below(most) {
-        bytes.push(chance.below(256) as u8)?;
+    for _ in 0..rng.below(most) {
+        bytes.push(rng.below(256) as u8)?;
     }
     Ok(bytes)
 }
 
 // Files of random bytes, some of them of a name's; the name `-` has a key.
-pub fn files_at_random(alloc: Global, chance: &mut Chance) -> Result<Vec<File>, Fail> {
+pub fn files_at_random(alloc: Global, rng: &mut Rng) -> Result<Vec<File>, Fail> {
     let mut files = Vec::new(alloc);
     for name in NAMES {
-        let most = if chance.is_one_in(4) { 3_000 } else { 80 };
-        let content = bytes_at_random(alloc, chance, most)?;
-        if name != "none" && !chance.is_one_in(6) {
+        let most = if rng.is_one_in(4) { 3_000 } else { 80 };
+        let content = bytes_at_random(alloc, rng, most)?;
+        if name != "none" && !rng.is_one_in(6) {
             files.push(File { name, content })?;
         }
     }
@@ -115,9 +115,9 @@ pub fn files_at_random(alloc: Global, chance: &mut Chance) -> Result<Vec<File>, 
 }
 
 // A key, most of which have 32 bytes.
-fn key_at_random(alloc: Global, chance: &mut Chance) -> Result<File, Fail> {
-    let content = if chance.is_one_in(3) {
-        bytes_at_random(alloc, chance, 40)?
+fn key_at_random(alloc: Global, rng: &mut Rng) -> Result<File, Fail> {
+    let content = if rng.is_one_in(3) {
+        bytes_at_random(alloc, rng, 40)?
     } else {
         Vec::from_slice(alloc, KEY)?
     };
@@ -125,30 +125,30 @@ fn key_at_random(alloc: Global, chance: &mut Chance) -> Result<File, Fail> {
 }
 
 // The right line of a name, a wrong one, or one that is broken at some place.
-fn line_at_random(alloc: Global, chance: &mut Chance, files: &[File]) -> Result<Vec<u8>, Fail> {
-    let name = chance.name();
+fn line_at_random(alloc: Global, rng: &mut Rng, files: &[File]) -> Result<Vec<u8>, Fail> {
+    let name = rng.name();
     let digest = match content_of(files, name) {
-        Some(content) if !chance.is_one_in(4) => b3_hash::hash(content),
+        Some(content) if !rng.is_one_in(4) => b3_hash::hash(content),
         _ => b3_hash::hash(b"another"),
     };
-    let mut line = if chance.is_one_in(2) {
+    let mut line = if rng.is_one_in(2) {
         plain_line(alloc, &digest, name.as_bytes())?
     } else {
         tagged_line(alloc, &digest, name.as_bytes())?
     };
-    break_at_random(alloc, chance, &mut line)?;
+    break_at_random(alloc, rng, &mut line)?;
     Ok(line)
 }
 
 // Breaks a line, most often not.
-fn break_at_random(alloc: Global, chance: &mut Chance, line: &mut Vec<u8>) -> Result<(), Fail> {
-    let place = chance.below(80) as usize;
-    match chance.below(14) {
+fn break_at_random(alloc: Global, rng: &mut Rng, line: &mut Vec<u8>) -> Result<(), Fail> {
+    let place = rng.below(80) as usize;
+    match rng.below(14) {
         0 => line.truncate(place),
-        1 => *line = bytes_at_random(alloc, chance, 100)?,
+        1 => *line = bytes_at_random(alloc, rng, 100)?,
         2 => {
             if let Some(byte) = line.get_mut(place) {
-                *byte = BYTES[chance.below(10) as usize];
+                *byte = BYTES[rng.below(10) as usize];
             }
         }
         3 => line.insert(0, b'\\')?,
@@ -173,37 +173,37 @@ fn break_at_random(alloc: Global, chance: &mut Chance, line: &mut Vec<u8>) -> Re
 // A list of some lines, the last of which may be cut off.
 pub fn list_at_random(
     alloc: Global,
-    chance: &mut Chance,
+    rng: &mut Rng,
     name: &'static str,
     files: &[File],
 ) -> Result<File, Fail> {
     let mut content = Vec::new(alloc);
-    for _ in 0..chance.below(9) {
-        let line = line_at_random(alloc, chance, files)?;
+    for _ in 0..rng.below(9) {
+        let line = line_at_random(alloc, rng, files)?;
         content.extend_from_slice(line.as_slice())?;
     }
-    if chance.is_one_in(3) {
-        content.truncate(chance.below(600) as usize);
+    if rng.is_one_in(3) {
+        content.truncate(rng.below(600) as usize);
     }
     Ok(File { name, content })
 }
 
-fn names_at_random(alloc: Global, chance: &mut Chance, most: u64) -> Result<Vec<String>, Fail>
+fn names_at_random(alloc: Global, rng: &mut Rng, most: u64) -> Result<Vec<String>, Fail>
     requires { 0 < most }
 {
     let mut names = Vec::new(alloc);
-    for _ in 0..chance.below(most) {
-        names.push(String::from_str(alloc, chance.name())?)?;
+    for _ in 0..rng.below(most) {
+        names.push(String::from_str(alloc, rng.name())?)?;
     }
     Ok(names)
 }
 
 // Lists, most of them such as have lines.
-fn lists_at_random(alloc: Global, chance: &mut Chance) -> Result<Vec<String>, Fail> {
+fn lists_at_random(alloc: Global, rng: &mut Rng) -> Result<Vec<String>, Fail> {
     let mut lists = Vec::new(alloc);
-    for _ in 0..chance.below(4) {
-        let name = match chance.below(4) {
-            0 => chance.name(),
+    for _ in 0..rng.below(4) {
+        let name = match rng.below(4) {
+            0 => rng.name(),
             1 => "m\r",
             _ => "l",
         };
@@ -212,13 +212,13 @@ fn lists_at_random(alloc: Global, chance: &mut Chance) -> Result<Vec<String>, Fa
     Ok(lists)
 }
 
-fn sum_options_at_random(alloc: Global, chance: &mut Chance) -> Result<SumOptions, Fail> {
-    let key = match chance.below(3) {
+fn sum_options_at_random(alloc: Global, rng: &mut Rng) -> Result<SumOptions, Fail> {
+    let key = match rng.below(3) {
         0 => KeyChoice::Plain,
         1 => KeyChoice::Keyed,
         _ => KeyChoice::Derive(String::from_str(alloc, "a context")?),
     };
-    let form = match chance.below(5) {
+    let form = match rng.below(5) {
         0 => Form::Bare,
         1 => Form::Raw,
         2 => Form::Tagged,
@@ -226,34 +226,34 @@ fn sum_options_at_random(alloc: Global, chance: &mut Chance) -> Result<SumOption
     };
     Ok(SumOptions {
         key,
-        seek: chance.below(200),
-        length: chance.below(100) as u32,
+        seek: rng.below(200),
+        length: rng.below(100) as u32,
         form,
         workers: 4,
-        turns: turns_at_random(chance),
+        turns: turns_at_random(rng),
         largest: 0,
     })
 }
 
-fn turns_at_random(chance: &mut Chance) -> u64 {
-    if chance.is_one_in(4) {
-        1 + chance.below(8)
+fn turns_at_random(rng: &mut Rng) -> u64 {
+    if rng.is_one_in(4) {
+        1 + rng.below(8)
     } else {
         1_000
     }
 }
 
-fn check_options_at_random(chance: &mut Chance) -> CheckOptions {
+fn check_options_at_random(rng: &mut Rng) -> CheckOptions {
     CheckOptions {
-        quiet: chance.is_one_in(2),
-        ignore_missing: chance.is_one_in(2),
-        status: chance.is_one_in(4),
-        strict: chance.is_one_in(2),
-        warn: chance.is_one_in(2),
+        quiet: rng.is_one_in(2),
+        ignore_missing: rng.is_one_in(2),
+        status: rng.is_one_in(4),
+        strict: rng.is_one_in(2),
+        warn: rng.is_one_in(2),
         workers: 4,
-        turns: turns_at_random(chance),
-        largest: if chance.is_one_in(4) {
-            chance.below(700)
+        turns: turns_at_random(rng),
+        largest: if rng.is_one_in(4) {
+            rng.below(700)
         } else {
             100_000
         },
@@ -367,19 +367,19 @@ fn random_sums(rt: HostRuntime) -> Result<(), Fail> {
     let alloc = rt.alloc();
     let mut seen = Seen::nothing(alloc);
     for seed in 0..300u64 {
-        let mut chance = Chance { state: seed };
-        let mut files = files_at_random(alloc, &mut chance)?;
-        files.insert(0, key_at_random(alloc, &mut chance)?)?;
-        let options = sum_options_at_random(alloc, &mut chance)?;
-        let names = names_at_random(alloc, &mut chance, 8)?;
+        let mut rng = Rng { state: seed };
+        let mut files = files_at_random(alloc, &mut rng)?;
+        files.insert(0, key_at_random(alloc, &mut rng)?)?;
+        let options = sum_options_at_random(alloc, &mut rng)?;
+        let names = names_at_random(alloc, &mut rng, 8)?;
         if options.form == Form::Raw && names.len() != 1 {
             continue;
         }
-        let most = chance.piece();
-        let calls_before = chance.calls_before(30);
+        let most = rng.piece();
+        let calls_before = rng.calls_before(30);
         let mut shelf = RecordedFiles::new(alloc, files.as_slice(), most, calls_before);
-        let mut out = PieceSink::new(alloc, chance.piece(), chance.calls_before(20));
-        let mut err = PieceSink::new(alloc, chance.piece(), chance.calls_before(20));
+        let mut out = PieceSink::new(alloc, rng.piece(), rng.calls_before(20));
+        let mut err = PieceSink::new(alloc, rng.piece(), rng.calls_before(20));
         let answer = sum_into(&rt, alloc, &mut shelf, &names, &mut out, &mut err, &options);
         let answers = shelf.answers.as_slice();
         let report = sum_report(&rt, alloc, &options, names.as_slice(), answers)?;
@@ -402,19 +402,19 @@ fn random_checks(rt: HostRuntime) -> Result<(), Fail> {
     let alloc = rt.alloc();
     let mut seen = Seen::nothing(alloc);
     for seed in 0..400u64 {
-        let mut chance = Chance { state: seed };
-        let mut files = files_at_random(alloc, &mut chance)?;
-        let list = list_at_random(alloc, &mut chance, "l", files.as_slice())?;
-        let other = list_at_random(alloc, &mut chance, "m\r", files.as_slice())?;
+        let mut rng = Rng { state: seed };
+        let mut files = files_at_random(alloc, &mut rng)?;
+        let list = list_at_random(alloc, &mut rng, "l", files.as_slice())?;
+        let other = list_at_random(alloc, &mut rng, "m\r", files.as_slice())?;
         files.insert(0, list)?;
         files.insert(0, other)?;
-        let options = check_options_at_random(&mut chance);
-        let lists = lists_at_random(alloc, &mut chance)?;
-        let most = chance.piece();
-        let calls_before = chance.calls_before(50);
+        let options = check_options_at_random(&mut rng);
+        let lists = lists_at_random(alloc, &mut rng)?;
+        let most = rng.piece();
+        let calls_before = rng.calls_before(50);
         let mut shelf = RecordedFiles::new(alloc, files.as_slice(), most, calls_before);
-        let mut out = PieceSink::new(alloc, chance.piece(), chance.calls_before(40));
-        let mut err = PieceSink::new(alloc, chance.piece(), chance.calls_before(40));
+        let mut out = PieceSink::new(alloc, rng.piece(), rng.calls_before(40));
+        let mut err = PieceSink::new(alloc, rng.piece(), rng.calls_before(40));
         let answer = check_into(&rt, alloc, &mut shelf, &lists, &mut out, &mut err, &options);
         let answers = shelf.answers.as_slice();
         let report = check_report(&rt, alloc, &options, lists.as_slice(), answers)?;

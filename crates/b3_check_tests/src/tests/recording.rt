@@ -5,13 +5,13 @@ ghost use Rattle.std.specs.Prelude.{◌≡◌, ◌<◌, ◌≤◌, [], false, No
 use b3_check::{CannotRead, NoContent, Shelf, Sink, SinkFailed};
 use std::alloc::{AllocError, Global};
 
-/// Gives the first of these bytes, as many as the room takes and at most so many, and answers how many they are.
-pub fn give(bytes: &[u8], most: usize, room: &mut [u8]) -> usize
-    ensures within { result ≤ length room.old }
-    ensures len { length room.new ≡ length room.old }
+/// Gives the first of these bytes, as many as the buffer takes and at most so many, and answers how many they are.
+pub fn give(bytes: &[u8], most: usize, buffer: &mut [u8]) -> usize
+    ensures within { result ≤ length buffer.old }
+    ensures len { length buffer.new ≡ length buffer.old }
 {
-    let count = bytes.len().min(room.len()).min(most);
-    room[..count].copy_from_slice(&bytes[..count]);
+    let count = bytes.len().min(buffer.len()).min(most);
+    buffer[..count].copy_from_slice(&bytes[..count]);
     count
 }
 
@@ -169,7 +169,7 @@ impl Shelf for RecordedFiles<'_> {
         Err(NoContent::CannotRead)
     }
 
-    fn read(&mut self, room: &mut [u8]) -> Result<usize, CannotRead> {
+    fn read(&mut self, buffer: &mut [u8]) -> Result<usize, CannotRead> {
         if !self.is_begun {
             return Ok(0);
         }
@@ -183,7 +183,7 @@ impl Shelf for RecordedFiles<'_> {
             self.failures += 1;
             return Err(CannotRead);
         }
-        let count = give(answer.rest, self.most, room);
+        let count = give(answer.rest, self.most, buffer);
         answer.rest = answer.rest.get(count..).unwrap_or(b"");
         if count == 0 {
             answer.state = State::Ended;

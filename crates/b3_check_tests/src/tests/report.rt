@@ -62,8 +62,8 @@ impl<'a> Report<'a> {
         Some(answer)
     }
 
-    // The next answer, where it is whole. A fault comes in its place where a name has more bytes than so many, and where
-    // it was left after as many reads as a name may take.
+    // The next answer, where it is whole. A fault comes in its place where a name has more bytes than so many, and
+    // where it was left after as many reads as a name may take.
     fn next_whole(&mut self, rt: &impl Abort, name: &[u8], largest: u64) -> Option<&'a Answer<'a>> {
         self.fault = Some(RunFault::WriteFault);
         let answer = self.next(rt, name)?;

@@ -3,7 +3,7 @@
 
 use crate::tests::check_options;
 use crate::tests::ended::{check_files, check_into};
-use crate::tests::random::{Chance, compare, files_at_random, list_at_random};
+use crate::tests::random::{Rng, compare, files_at_random, list_at_random};
 use crate::tests::recording::{PieceSink, RecordedFiles};
 use crate::tests::report::check_report;
 use b3_check::{CheckOptions, RunFault, Tally};
@@ -248,16 +248,16 @@ fn check_at_random<R: Abort + Threads + Wait + Sync>(
     seed: u64,
     set: u64,
 ) -> Result<Result<Tally, RunFault>, Fail> {
-    let mut chance = Chance { state: seed };
-    let mut files = files_at_random(alloc, &mut chance)?;
-    let list = list_at_random(alloc, &mut chance, "l", files.as_slice())?;
+    let mut rng = Rng { state: seed };
+    let mut files = files_at_random(alloc, &mut rng)?;
+    let list = list_at_random(alloc, &mut rng, "l", files.as_slice())?;
     files.insert(0, list)?;
     let options = options_of(set);
     let lists = [String::from_str(alloc, "l")?];
-    let calls_before = chance.calls_before(50);
+    let calls_before = rng.calls_before(50);
     let mut shelf = RecordedFiles::new(alloc, files.as_slice(), 64, calls_before);
-    let mut out = PieceSink::new(alloc, chance.piece(), u64::MAX);
-    let mut err = PieceSink::new(alloc, chance.piece(), u64::MAX);
+    let mut out = PieceSink::new(alloc, rng.piece(), u64::MAX);
+    let mut err = PieceSink::new(alloc, rng.piece(), u64::MAX);
     let answer = check_into(rt, alloc, &mut shelf, &lists, &mut out, &mut err, &options);
     let answers = shelf.answers.as_slice();
     let report = check_report(rt, alloc, &options, &lists, answers)?;

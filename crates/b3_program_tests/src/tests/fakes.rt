@@ -241,7 +241,8 @@ impl<R: Abort> OpenFile for FakeFile<'_, R> {
     }
 }
 
-/// A file system of a few files. A call that changes one, and one that opens a file for more than reading, stop the test.
+/// A file system of a few files. A call that changes one, and one that opens a file for more than reading, stop the
+/// test.
 #[derive(Drop)]
 pub struct FakeFiles<'a, R> {
     rt: &'a R,

@@ -17,10 +17,10 @@ use std::test::Fail;
 pub const OWN_PROGRAM: &str = "/proc/self/exe";
 
 // The digest of the file of this name, if it is hashed beside others.
-pub fn digest_of_whole<S: Shelf>(shelf: &S, name: &str, longest: u64) -> Option<[u8; 32]> {
+pub fn digest_of_whole<S: Shelf>(shelf: &S, name: &str, max_len: u64) -> Option<[u8; 32]> {
     let mut buffer = [0; 1_000];
     let mut hasher = Hasher::new(Mode::hash());
-    if !shelf.hash_whole(name, longest, &mut buffer, &mut hasher) {
+    if !shelf.hash_whole(name, max_len, &mut buffer, &mut hasher) {
         return None;
     }
     Some(digest_of(&hasher))

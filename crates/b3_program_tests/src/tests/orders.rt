@@ -1,4 +1,5 @@
-// The order of what is said on both outputs: what is said of an item goes out, on both, before what is said of the next.
+// The order of what is said on both outputs: what is said of an item goes out, on both, before what is said of the
+// next.
 
 use b3_board::OpenGate;
 use b3_check::{CheckOptions, Form, KeyChoice, SumOptions, run_check, run_sum};

@@ -407,8 +407,8 @@ fn assert_cut_short<R: Abort + AllocGlobal + Threads + Wait + Sync, S: Shelf + S
 ) -> Result<(), AllocError>
     requires { S.failures shelf.old ≡ 0 }
 {
-    let mut room = [0; 3];
-    let mut out = OutputSink::new(room.as_mut_slice());
+    let mut buffer = [0; 3];
+    let mut out = OutputSink::new(buffer.as_mut_slice());
     let mut err = MemorySink::new(rt.alloc());
     let words = Ok(arguments(rt.alloc(), words)?);
     let ended = run_call(rt, rt.alloc(), words, shelf, &mut out, &mut err, &OpenGate);

@@ -1,7 +1,7 @@
 use Rattle.std.proofs.Common.{◌≡◌, drop, map}
 use Rattle.std.specs.List.{filter_map, slice_get}
 use Rattle.b3_board.specs.Entries.{pieces}
-use Rattle.b3_board.proofs.Picturing.{kept_span}
+use Rattle.b3_board.proofs.LawfulStates.{kept_span}
 use Rattle.b3_board.proofs.entries.nth_piece.Given as goal
 
 abbrev pub invariant-loop-entry : goal.invariant-loop-entry

@@ -13,7 +13,7 @@ returns-clause-none g c = λ i. elim (cases_lt i (length c.spans.entries)) [
 
 pub returns-clause-waiting : goal.returns-clause-waiting
 returns-clause-waiting g c =
-    let l = g.L.Named in
+    let l = g.L.InputLedger in
     let now = c.spans.invariant in
     let all = all_kept l.input l.mode l.first c.spans.entries now.lawful
     (returns-clause-none g c) in

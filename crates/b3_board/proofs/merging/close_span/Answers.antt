@@ -13,33 +13,33 @@ merge_up-requires-clause-kept g c =
 
 pub merge_up-requires-clause-sound : goal.merge_up-requires-clause-sound
 merge_up-requires-clause-sound g c =
-    let of = g.L.Named in
+    let of = g.L.InputLedger in
     closed-sound of.input of.mode of.first c.args.entries.now c.requires.lawful c.args.place
     c.requires.inside c.requires.open c.args.kept c.requires.top c.requires.chaining
 
 pub merge_up-requires-clause-apart : goal.merge_up-requires-clause-apart
 merge_up-requires-clause-apart g c =
-    let of = g.L.Named in
+    let of = g.L.InputLedger in
     closed-apart of.input of.mode of.first c.args.entries.now c.requires.lawful c.args.place
     c.requires.inside c.requires.open c.args.kept c.requires.top c.requires.chaining
 
 pub returns-clause-chunks : goal.returns-clause-chunks
 returns-clause-chunks g c = λ k.
-    let of = g.L.Named in
+    let of = g.L.InputLedger in
     c.merge_up.ensures.same_chunks k
     ∙ closed-kept_chunk of.input of.mode of.first c.args.entries.now c.requires.lawful c.args.place
     c.requires.inside c.requires.open c.args.kept c.requires.top c.requires.chaining k
 
 pub returns-clause-count : goal.returns-clause-count
 returns-clause-count g c =
-    let of = g.L.Named in
+    let of = g.L.InputLedger in
     c.merge_up.ensures.same_count
     ∙ closed-kept_count of.input of.mode of.first c.args.entries.now c.requires.lawful c.args.place
     c.requires.inside c.requires.open c.args.kept c.requires.top c.requires.chaining
 
 pub returns-clause-opens : goal.returns-clause-opens
 returns-clause-opens g c =
-    let of = g.L.Named in
+    let of = g.L.InputLedger in
     c.merge_up.ensures.same_open
     ∙ closed-open of.input of.mode of.first c.args.entries.now c.requires.lawful c.args.place
     c.requires.inside c.requires.open c.args.kept c.requires.top c.requires.chaining

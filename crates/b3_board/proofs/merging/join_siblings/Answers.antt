@@ -7,24 +7,24 @@ use Rattle.b3_board.proofs.merging.join_siblings.Goals as goal
 
 pub join_two-requires-clause-fits : goal.join_two-requires-clause-fits
 join_two-requires-clause-fits g c =
-    let h = siblings_fit (chunks g.L.Named.input.len) _ _ (omega arith) c.requires.siblings in
+    let h = siblings_fit (chunks g.L.InputLedger.input.len) _ _ (omega arith) c.requires.siblings in
     omega (arith, c.requires.few)
 
 pub join_two-requires-else-other-here-clause-fits : goal.join_two-requires-else-other-here-clause-fits
 join_two-requires-else-other-here-clause-fits g c =
-    let h = siblings_fit (chunks g.L.Named.input.len) _ _ (omega arith) c.requires.siblings in
+    let h = siblings_fit (chunks g.L.InputLedger.input.len) _ _ (omega arith) c.requires.siblings in
     omega (arith, c.requires.few)
 
 pub join_two-requires-else-other-here-clause-apart : goal.join_two-requires-else-other-here-clause-apart
 join_two-requires-else-other-here-clause-apart g c =
-    let n = chunks g.L.Named.input.len in
+    let n = chunks g.L.InputLedger.input.len in
     let h = over n c.args.entries.now c.args.here c.args.other (omega arith)
     c.requires.sound.in_order c.requires.inside c.requires.other_inside c.requires.siblings c.if-other-here.false in
     h.0
 
 pub returns-then-other-here : goal.returns-then-other-here
 returns-then-other-here g c =
-    let of = g.L.Named in
+    let of = g.L.InputLedger in
     let h = under (chunks of.input.len) c.args.entries.now c.args.here c.args.other (omega arith)
     c.requires.sound.in_order c.requires.inside c.requires.other_inside c.requires.siblings c.if-other-here.true in
     is_joined_well of.input of.mode of.first c.args.entries.now c.args.here
@@ -35,7 +35,7 @@ returns-then-other-here g c =
 
 pub returns-else-other-here : goal.returns-else-other-here
 returns-else-other-here g c =
-    let of = g.L.Named in
+    let of = g.L.InputLedger in
     let h = over (chunks of.input.len) c.args.entries.now c.args.here c.args.other (omega arith)
     c.requires.sound.in_order c.requires.inside c.requires.other_inside c.requires.siblings c.if-other-here.false in
     is_joined_well of.input of.mode of.first c.args.entries.now c.args.here

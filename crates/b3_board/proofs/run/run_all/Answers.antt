@@ -2,12 +2,12 @@ use Rattle.std.proofs.Common.{◌≡◌, List, length, sym, subst, ap, ◌∙◌
 use Rattle.std.proofs.lemmas.List.{with_items_is}
 use Rattle.std.specs.List.{All}
 use Rattle.std.specs.Vec.{with_items}
-use Rattle.b3_core.specs.declared.tree.Span.{Span}
-use Rattle.b3_board.specs.WorkerRuns.{HasEnded}
+use Rattle.b3_core.specs.declared.spans.Span.{Span}
+use Rattle.b3_board.specs.WorkerStates.{HasEnded}
 use Rattle.b3_board.proofs.run.run_all.Goals as goal
 
-pub join_up-requires-clause-each : goal.join_up-requires-clause-each
-join_up-requires-clause-each g c =
+pub join_workers-requires-clause-each : goal.join_workers-requires-clause-each
+join_workers-requires-clause-each g c =
     let states = c.in_ok-states.states in
     let items : (with_items states c.run_each.new.states).items ≡ c.run_each.new.states =
     with_items_is states c.run_each.new.states

@@ -1,5 +1,5 @@
 use Rattle.std.proofs.Common.{rules, sym, ap, ◌∙◌}
-use Rattle.b3_board.specs.WorkerRuns.{seat_parts, share_parts}
+use Rattle.b3_board.specs.WorkerStates.{seat_parts, share_parts}
 use Rattle.b3_board.proofs.WorkerStates.{sum_by-same}
 use Rattle.b3_board.proofs.run.run_each.Goals as goal
 

@@ -1,6 +1,6 @@
 use Rattle.std.proofs.Common.{◌+◌, ◌<◌, true, false, length, refl, sym, subst, ap, ◌∙◌, arith}
 use Rattle.b3_board.specs.Claiming.{tried}
-use Rattle.b3_board.specs.Shares.{Holding}
+use Rattle.b3_board.specs.Shares.{ShareState}
 use Rattle.b3_board.specs.WorkerRuns.{HasWorked}
 use Rattle.b3_board.proofs.Working.{HasWorked-tried}
 use Rattle.b3_board.proofs.workers.work.Goals.{then-try_claim, else-try_claim}
@@ -22,11 +22,11 @@ loop-i-preserved g c =
       own = c.try_claim.ensures.own;
       worked = elim c.if-try_claim.branch [
         | then-try_claim w ↦
-            subst (λ (s : Holding). HasWorked spans (i + 1) old held next s) (sym w.share-is)
+            subst (λ (s : ShareState). HasWorked spans (i + 1) old held next s) (sym w.share-is)
             (HasWorked-tried spans i true old seat next held share w.hash_span.new.share worked inside
             (view ∙ ap (tried seat.view i) w.if-try_claim.true) w.hash_span.ensures.parts w.hash_span.ensures.grown)
         | else-try_claim w ↦
-            subst (λ (s : Holding). HasWorked spans (i + 1) old held next s) (sym w.share-is)
+            subst (λ (s : ShareState). HasWorked spans (i + 1) old held next s) (sym w.share-is)
             (HasWorked-tried spans i false old seat next held share share worked inside
             (view ∙ ap (tried seat.view i) w.if-try_claim.false) refl (omega arith))
       ];

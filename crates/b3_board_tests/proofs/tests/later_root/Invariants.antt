@@ -1,8 +1,8 @@
 use Rattle.b3_board.specs.Spans.{in_memory}
 use Rattle.b3_board_tests.proofs.tests.later_root.Given as goal
 
-abbrev pub ghosts-later_root_on-L-Named : goal.ghosts-later_root_on-L-Named
-ghosts-later_root_on-L-Named g a = record {
+abbrev pub ghosts-later_root_on-L-InputLedger : goal.ghosts-later_root_on-L-InputLedger
+ghosts-later_root_on-L-InputLedger g a = record {
   input = in_memory a.plan.now.input;
   mode = a.plan.now.mode;
   first = a.plan.now.first;

@@ -9,8 +9,8 @@ returns-clause-bytes g c = λ told.
     let left = g.S.Shelf.left c.read.new.self in
     let gives = c.in_ok-count.ensures.bytes told in
     let n = c.in_ok-count.count in
-    let room = c.read.new.room in
-    let fits : n ≤ length room = search (arith, rules) in
+    let buffer = c.read.new.buffer in
+    let fits : n ≤ length buffer = search (arith, rules) in
     ap (λ bytes. take filled items ++ bytes) gives.parts
-    ∙ sym (append_assoc (take filled items) (take n room) left)
-    ∙ ap (λ bytes. bytes ++ left) (sym (take-read items room _ filled n (omega (arith, c.requires.not_full)) fits))
+    ∙ sym (append_assoc (take filled items) (take n buffer) left)
+    ∙ ap (λ bytes. bytes ++ left) (sym (take-read items buffer _ filled n (omega (arith, c.requires.not_full)) fits))

@@ -12,7 +12,7 @@ loop-name_hasher-preserved g c =
     let here = held.found c.loop-name_hasher.name_hasher-index c.name_hasher-item.result within in
     record {
       found = All-set (λ (name_hasher : NameHasher). All found name_hasher.found.items) c.loop-name_hasher.name_hashers
-          c.loop-name_hasher.name_hasher-index _ (rw c.note.ensures.taken (All-nil found)) held.found;
-      items = c.note.ensures.items ∙ held.items;
-      right = c.note.ensures.right _ _ (rw held.items here) held.right;
+          c.loop-name_hasher.name_hasher-index _ (rw c.take_found.ensures.taken (All-nil found)) held.found;
+      items = c.take_found.ensures.items ∙ held.items;
+      right = c.take_found.ensures.right _ _ (rw held.items here) held.right;
     }

@@ -7,12 +7,12 @@ use Rattle.b3_check.proofs.prefetch.queue_items.Given as goal
 -- what is left is the same
 abbrev pub invariant-items : goal.invariant-items
 invariant-items g l =
-    let agenda = g.P.Agenda in
+    let work = g.P.WorkItems in
     record {
-      left : tasks_then l.queue.items (agenda.left l.agenda) ≡ tasks_then l.fn.queue.items (agenda.left l.fn.agenda);
+      left : tasks_then l.queue.items (work.left l.work) ≡ tasks_then l.fn.queue.items (work.left l.fn.work);
       right : (told : Option Contents) (range : OutputRange) → All (IsRight told range) l.fn.queue.items
-          → agenda.fits l.fn.agenda range.length ≡ true → All (IsRight told range) l.queue.items;
-      fits : (len : ℕ) → agenda.fits l.agenda len ≡ agenda.fits l.fn.agenda len;
+          → work.fits l.fn.work range.length ≡ true → All (IsRight told range) l.queue.items;
+      fits : (len : ℕ) → work.fits l.work len ≡ work.fits l.fn.work len;
     }
 
 abbrev pub decreases-items : goal.decreases-items

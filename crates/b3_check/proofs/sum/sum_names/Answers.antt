@@ -2,9 +2,8 @@ use Rattle.std.proofs.Common.{◌<◌, ◌^◌, Err, arith, length, map, refl, s
 use Rattle.std.proofs.lemmas.List.{length-map}
 use Rattle.std.proofs.lemmas.Result.{err_from_is_err_and}
 use Rattle.b3_core.specs.declared.modes.Mode.{Mode}
-use Rattle.b3_check.specs.Devices.{scene_of}
+use Rattle.b3_check.specs.Devices.{CanCount, io_state_of}
 use Rattle.b3_check.specs.Digests.{range_of}
-use Rattle.b3_check.specs.Runs.{HasRoom}
 use Rattle.b3_check.specs.Sums.{names_script}
 use Rattle.b3_check.proofs.RunLemmas.{mode_count, mode_room, runs_in_mode, runs_surely, stopped_at_once, stopped_in_mode}
 use Rattle.b3_check.proofs.TaskLemmas.{tasks_script-names}
@@ -45,10 +44,10 @@ returns-in_err-mode-clause-shelf_count g c =
 pub run-requires : goal.run-requires
 run-requires g c = λ _.
     let names = c.args.names.now in
-    let seen = scene_of g.S.Shelf g.O.Sink g.E.Sink in
+    let seen = io_state_of g.S.Shelf g.O.Sink g.E.Sink in
     let found = c.in_ok-mode.ensures.found in
-    let room : HasRoom (seen c.find_mode.new.devices) (length names) =
-    mode_room c.args.options.now.key c.in_ok-mode.mode _ _ (length names) found c.requires.room in (
+    let countable : CanCount (seen c.find_mode.new.devices) (length names) =
+    mode_room c.args.options.now.key c.in_ok-mode.mode _ _ (length names) found c.requires.countable in (
       c.type_bounds.send-S,
       (
         c.type_bounds.sync-R,
@@ -62,7 +61,7 @@ run-requires g c = λ _.
                 refl,
                 (
                   subst (λ n. n < 2 ^ 63) (sym (length-map names _)) (omega (arith, c.requires.names)),
-                  subst (λ n. HasRoom (seen c.find_mode.new.devices) n) (sym (length-map names _)) room,
+                  subst (λ n. CanCount (seen c.find_mode.new.devices) n) (sym (length-map names _)) countable,
                 ),
               ),
             ),

@@ -1,7 +1,10 @@
-use Rattle.b3_core.proofs.RowRounds.{undiagonalized-rows}
+use Rattle.std.proofs.Common.{[], ◌∷◌, ◌++◌, refl}
+use Rattle.b3_core.specs.Rows.{row_words, undiagonalized}
+use Rattle.b3_core.proofs.RowRounds.{picked, same_on_rows}
 use Rattle.b3_core.proofs.compression.undiagonalized.Goals as goal
 
 pub returns-clause-words : goal.returns-clause-words
 returns-clause-words c =
-    let v = c.args.v in
-    undiagonalized-rows v.0 v.1 v.2 v.3 c.requires.0 c.requires.1 c.requires.2 c.requires.3
+    same_on_rows (λ v. picked (v.0 ++ v.0) (1 ∷ 2 ∷ 3 ∷ 0 ∷ []) ++ v.1 ++ picked (v.2 ++ v.2) (3 ∷ 0 ∷ 1 ∷ 2 ∷ [])
+    ++ picked (v.3 ++ v.3) (2 ∷ 3 ∷ 0 ∷ 1 ∷ [])) (λ v. undiagonalized (row_words v)) (λ a b c d. refl)
+    c.args.v c.requires

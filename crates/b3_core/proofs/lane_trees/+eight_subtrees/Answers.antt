@@ -5,7 +5,7 @@ use Rattle.b3_core.proofs.lane_trees.+eight_subtrees.Goals as goal
 
 pub returns-then-level-eq0-clause-lanes : goal.returns-then-level-eq0-clause-lanes
 returns-then-level-eq0-clause-lanes t c j lt =
-    c.chain_eight.ensures.lanes j lt
+    c.chain_all_lanes.ensures.lanes j lt
     ∙ parts-chunks c.args.mode.now c.args.first c.args.bytes.now j
     ∙ ap (λ l. part_chaining l c.args.mode.now c.args.first c.args.bytes.now j) (sym c.if-level-eq0.true)
 

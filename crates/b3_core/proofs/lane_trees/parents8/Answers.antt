@@ -14,7 +14,7 @@ returns-clause-front c j lt =
     let odd = lane-picked_front (λ i. 2 * i + 1) left right j wide in_range (omega arith) in
     let none : get_or (replicate 8 0) j 0 ≡ 0 = get_or-replicate 8 j 0 0 in_range in
     c.chainings8.ensures.lanes j 0 in_range none none
-    ∙ (λ i. take 8 (compress (c.spread-h.ensures.lanes j in_range i) (even i ++ odd i) 0 64
+    ∙ (λ i. take 8 (compress (c.broadcast-h.ensures.lanes j in_range i) (even i ++ odd i) 0 64
     (bit_or c.args.mode.now.flag 4)))
 
 pub returns-clause-back : goal.returns-clause-back
@@ -28,5 +28,5 @@ returns-clause-back c j lt =
     (omega arith) in
     let none : get_or (replicate 8 0) (j + 4) 0 ≡ 0 = get_or-replicate 8 (j + 4) 0 0 in_range in
     c.chainings8.ensures.lanes (j + 4) 0 in_range none none
-    ∙ (λ i. take 8 (compress (c.spread-h.ensures.lanes (j + 4) in_range i) (even i ++ odd i) 0 64
+    ∙ (λ i. take 8 (compress (c.broadcast-h.ensures.lanes (j + 4) in_range i) (even i ++ odd i) 0 64
     (bit_or c.args.mode.now.flag 4)))

@@ -2,7 +2,9 @@ use Rattle.std.proofs.Common.{rules, inl, inr, arith}
 use Rattle.std.proofs.lemmas.Bool.{eq-eqb, eqb-true}
 use Rattle.b3_core.proofs.Grid.{InGrid-from_IsSubtree, IsSubtree-from_tests, tests-from_IsSubtree}
 use Rattle.b3_core.proofs.spans.is_subtree.Goals as goal
-use Rattle.b3_core.proofs.spans.is_subtree.Goals.{then-span-eq0-via-then-span-eq0, then-span-eq0-via-else-span-eq0+then-span-n, then-span-eq0-via-else-span-eq0+else-span-n+then-span-n-2}
+use Rattle.b3_core.proofs.spans.is_subtree.Goals.{then-span-eq0-via-then-span-eq0}
+use Rattle.b3_core.proofs.spans.is_subtree.Goals.{then-span-eq0-via-else-span-eq0+then-span-n}
+use Rattle.b3_core.proofs.spans.is_subtree.Goals.{then-span-eq0-via-else-span-eq0+else-span-n+then-span-n-2}
 
 pub returns-then-span-eq0 : goal.returns-then-span-eq0
 returns-then-span-eq0 c = (

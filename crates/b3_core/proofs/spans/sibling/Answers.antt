@@ -4,7 +4,9 @@ use Rattle.b3_core.specs.Subtrees.{IsSubtree}
 use Rattle.b3_core.proofs.Grid.{InGrid-from_IsSubtree}
 use Rattle.b3_core.proofs.Siblings.{has_parent, left_sibling, only_sibling, right_found}
 use Rattle.b3_core.proofs.spans.sibling.Goals as goal
-use Rattle.b3_core.proofs.spans.sibling.Goals.{else-end-n-via-then-end-n+else-span-eq0, else-end-n-via-else-end-n, then-span-n-via-then-span-n, then-span-n-via-else-span-n+then-not-is_subtree}
+use Rattle.b3_core.proofs.spans.sibling.Goals.{else-end-n-via-then-end-n+else-span-eq0, else-end-n-via-else-end-n}
+use Rattle.b3_core.proofs.spans.sibling.Goals.{then-span-n-via-then-span-n}
+use Rattle.b3_core.proofs.spans.sibling.Goals.{then-span-n-via-else-span-n+then-not-is_subtree}
 
 pub returns-then-span-n-clause-only : goal.returns-then-span-n-clause-only
 returns-then-span-n-clause-only c = λ other siblings.

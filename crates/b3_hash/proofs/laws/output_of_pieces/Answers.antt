@@ -4,7 +4,7 @@ use Rattle.std.proofs.lemmas.Grind.{flat_map-append}
 use Rattle.std.proofs.lemmas.List.Concat.{length-flat_map}
 use Rattle.std.proofs.lemmas.List.Sums.{sum_by_more_le}
 use Rattle.b3_hash.specs.Hashers.{StandsFor}
-use Rattle.b3_hash.specs.Laws.{joined}
+use Rattle.b3_hash.specs.Laws.{concatenated}
 use Rattle.b3_hash.proofs.laws.output_of_pieces.Goals as goal
 
 -- no bytes, where there is no piece
@@ -12,18 +12,18 @@ abbrev none : Bor (List ℕ)
 none = record { ref_ptr = (0, 0); now = [] }
 
 -- one piece more
-joined-more : (pieces : List (Bor (List ℕ))) (i : ℕ) → i < length pieces
-    → joined (take (i + 1) pieces) ≡ joined (take i pieces) ++ (get_or pieces i none).now
-joined-more pieces i within =
+concatenated-more : (pieces : List (Bor (List ℕ))) (i : ℕ) → i < length pieces
+    → concatenated (take (i + 1) pieces) ≡ concatenated (take i pieces) ++ (get_or pieces i none).now
+concatenated-more pieces i within =
     let piece = get_or pieces i none in
-    ap joined (take_more pieces i none within)
+    ap concatenated (take_more pieces i none within)
     ∙ flat_map-append (λ (p : Bor (List ℕ)). p.now) (take i pieces) (piece ∷ [])
-    ∙ ap (λ rest. joined (take i pieces) ++ rest) (append-nil piece.now)
+    ∙ ap (λ rest. concatenated (take i pieces) ++ rest) (append-nil piece.now)
 
 -- some pieces and one more are no longer than all
-length-joined-more : (pieces : List (Bor (List ℕ))) (i : ℕ) → i < length pieces
-    → length (joined (take i pieces)) + length (get_or pieces i none).now ≤ length (joined pieces)
-length-joined-more pieces i within =
+length-concatenated-more : (pieces : List (Bor (List ℕ))) (i : ℕ) → i < length pieces
+    → length (concatenated (take i pieces)) + length (get_or pieces i none).now ≤ length (concatenated pieces)
+length-concatenated-more pieces i within =
     let some = length-flat_map (λ (p : Bor (List ℕ)). p.now) (take i pieces) in
     let all = length-flat_map (λ (p : Bor (List ℕ)). p.now) pieces in
     let more = sum_by_more_le (λ (p : Bor (List ℕ)). length p.now) pieces i none within in
@@ -31,7 +31,7 @@ length-joined-more pieces i within =
 
 pub unwrap-requires : goal.unwrap-requires
 unwrap-requires c =
-    let more = length-joined-more c.args.pieces.now c.loop-piece.piece-index c.loop-piece-test.true in
+    let more = length-concatenated-more c.args.pieces.now c.loop-piece.piece-index c.loop-piece-test.true in
     let len = c.loop-piece.invariant.len in
     search rules
 
@@ -39,7 +39,7 @@ pub loop-piece-preserved : goal.loop-piece-preserved
 loop-piece-preserved c =
     let pieces = c.args.pieces.now in
     let i = c.loop-piece.piece-index in
-    let more = joined-more pieces i c.loop-piece-test.true in
+    let more = concatenated-more pieces i c.loop-piece-test.true in
     let held = c.loop-piece.invariant in
     let len = rw c.unwrap.ensures at c.update.ensures.len in
     let ok = rw c.unwrap.ensures at c.update.ensures.ok in record {
@@ -49,7 +49,7 @@ loop-piece-preserved c =
         len,
         held.len,
         ap length more,
-        length-append (joined (take i pieces)) (get_or pieces i none).now,
+        length-append (concatenated (take i pieces)) (get_or pieces i none).now,
       );
-      stands_for = subst (StandsFor c.update.new.self) (sym more) (ok (joined (take i pieces)) held.stands_for);
+      stands_for = subst (StandsFor c.update.new.self) (sym more) (ok (concatenated (take i pieces)) held.stands_for);
     }

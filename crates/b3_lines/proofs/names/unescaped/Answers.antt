@@ -4,7 +4,7 @@ use Rattle.std.proofs.lemmas.Bool.{eqb-true}
 use Rattle.std.proofs.lemmas.Str.{IsCharBoundary-after_ascii}
 use Rattle.memchr.specs.Find.{Nowhere, Passes, is_byte}
 use Rattle.b3_lines.specs.Names.{escape_meaning, has_bad_escape}
-use Rattle.b3_lines.proofs.Escapes.{ends_escape-ascii, escape_meaning-ascii, lawful-first, unescaped-none, unescaped-step}
+use Rattle.b3_lines.proofs.Escapes.{escape_meaning-ascii, lawful-first, may_follow_backslash-ascii, unescaped-none, unescaped-step}
 use Rattle.b3_lines.proofs.names.unescaped.Goals as goal
 
 pub bounds-as_bytes-at : goal.bounds-as_bytes-at
@@ -21,7 +21,7 @@ range_from-rest-requires c =
     let at = c.in-Some.at in
     let next = lawful-first rest at found.0.high (eqb-true _ 92 found.1) found.0.before c.loop-at.invariant.1 in
     let cut = IsCharBoundary-after_ascii rest (at + 1) (rw c.as_bytes.ensures.value at c.as_bytes.ensures.utf8) next.0
-    (ends_escape-ascii _ next.1) in
+    (may_follow_backslash-ascii _ next.1) in
     let sum : at + 1 + 1 ≡ at + 2 = omega arith in
     λ _. rw sum at cut
 

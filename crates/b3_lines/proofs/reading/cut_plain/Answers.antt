@@ -43,8 +43,8 @@ returns-then-ne-clause-refused c marked =
     ∙ ap (bytes_eq (take 2 (drop 64 c.as_bytes-bytes.result.now))) (sym c.as_slice.ensures)
     ∙ not-true _ (sym c.if-ne.ensures))
 
-pub range_from-spelled-requires : goal.range_from-spelled-requires
-range_from-spelled-requires c =
+pub range_from-raw_name-requires : goal.range_from-raw_name-requires
+range_from-raw_name-requires c =
     let rest = c.args.rest.now in
     let len = c.as_bytes-bytes.ensures.len in
     let enough = c.if-bytes-lt66.false in
@@ -65,5 +65,5 @@ returns-clause-taken c =
       parted = ap (λ t. bytes_eq (take 2 (drop 64 t)) spaces) (sym c.as_bytes-bytes.ensures.value)
           ∙ ap (bytes_eq (take 2 (drop 64 c.as_bytes-bytes.result.now))) (sym c.as_slice.ensures)
           ∙ not-false _ (sym c.if-ne.ensures);
-      spelling = c.range_from-spelled.ensures.value;
+      spelling = c.range_from-raw_name.ensures.value;
     }

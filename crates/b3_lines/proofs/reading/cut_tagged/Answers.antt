@@ -5,9 +5,9 @@ use Rattle.std.proofs.lemmas.Bool.{le-ltb, not-false, not-true}
 use Rattle.std.proofs.lemmas.List.{length-drop, take_rest}
 use Rattle.hex.specs.Hex.{decode_of, decode_sized, is_hex_digit}
 use Rattle.b3_lines.specs.Reading.{tagged_layout}
-use Rattle.b3_lines.specs.Writing.{closing}
+use Rattle.b3_lines.specs.Writing.{tag_separator}
 use Rattle.b3_lines.proofs.DigitsAndSpaces.{digits-from_err, digits-from_ok}
-use Rattle.b3_lines.proofs.Layouts.{IsCharBoundary-closing, IsCharBoundary-tag}
+use Rattle.b3_lines.proofs.Layouts.{IsCharBoundary-tag_prefix, IsCharBoundary-tag_separator}
 use Rattle.b3_lines.proofs.Refusals.{refusal-not_digits, refusal-no_spaces}
 use Rattle.b3_lines.proofs.reading.cut_tagged.Goals as goal
 
@@ -38,19 +38,19 @@ returns-then-ne-clause-refused c marked =
     (ap (λ t. list_all is_hex_digit (drop (length t - 64) t)) (sym same)
     ∙ ap (list_all is_hex_digit) (sym (take_rest bytes start))
     ∙ (digits-from_ok (take (length bytes - start) (drop start bytes)) c.in-Ok.digest (sym c.in-Ok.ensures)).0)
-    (ap (λ t. bytes_eq (take 4 (drop (length t - 64 - 4) t)) closing) (sym same)
+    (ap (λ t. bytes_eq (take 4 (drop (length t - 64 - 4) t)) tag_separator) (sym same)
     ∙ ap (bytes_eq (take 4 (drop (start - 4) bytes))) (sym c.as_slice.ensures)
     ∙ ap (λ n. bytes_eq (take n (drop (start - 4) bytes)) c.as_slice.result.now) (sym four)
     ∙ not-true _ (sym c.if-ne.ensures))
 
-pub range-spelled-requires-clause-start_boundary : goal.range-spelled-requires-clause-start_boundary
-range-spelled-requires-clause-start_boundary c =
+pub range-raw_name-requires-clause-start_boundary : goal.range-raw_name-requires-clause-start_boundary
+range-raw_name-requires-clause-start_boundary c =
     let len = c.as_bytes-bytes.ensures.len in
     let enough = c.if-bytes-lt76.false in
-    λ _. IsCharBoundary-tag c.args.rest.now c.utf8.rest (omega (arith, len, enough)) c.requires
+    λ _. IsCharBoundary-tag_prefix c.args.rest.now c.utf8.rest (omega (arith, len, enough)) c.requires
 
-pub range-spelled-requires-clause-end_boundary : goal.range-spelled-requires-clause-end_boundary
-range-spelled-requires-clause-end_boundary c =
+pub range-raw_name-requires-clause-end_boundary : goal.range-raw_name-requires-clause-end_boundary
+range-raw_name-requires-clause-end_boundary c =
     let rest = c.args.rest.now in
     let bytes = c.as_bytes-bytes.result.now in
     let start = length bytes - 64 in
@@ -58,11 +58,12 @@ range-spelled-requires-clause-end_boundary c =
     let enough = c.if-bytes-lt76.false in
     let four : start - (start - 4) ≡ 4 = omega (arith, enough) in
     let at : length rest - 64 - 4 ≡ start - 4 = omega (arith, len) in
-    let parted = ap (λ t. bytes_eq (take 4 (drop (length t - 64 - 4) t)) closing) (sym c.as_bytes-bytes.ensures.value)
+    let parted = ap (λ t. bytes_eq (take 4 (drop (length t - 64 - 4) t)) tag_separator)
+    (sym c.as_bytes-bytes.ensures.value)
     ∙ ap (bytes_eq (take 4 (drop (start - 4) bytes))) (sym c.as_slice.ensures)
     ∙ ap (λ n. bytes_eq (take n (drop (start - 4) bytes)) c.as_slice.result.now) (sym four)
     ∙ not-false _ (sym c.if-ne.ensures) in
-    rw at at (IsCharBoundary-closing rest (omega (arith, len, enough)) parted)
+    rw at at (IsCharBoundary-tag_separator rest (omega (arith, len, enough)) parted)
 
 pub returns-clause-taken : goal.returns-clause-taken
 returns-clause-taken c =
@@ -79,9 +80,9 @@ returns-clause-taken c =
       digits = ap (λ t. decode_of (drop (length t - 64) t)) (sym same)
           ∙ ap decode_of (sym (take_rest bytes start))
           ∙ (digits-from_ok (take (length bytes - start) (drop start bytes)) c.in-Ok.digest (sym c.in-Ok.ensures)).1;
-      parted = ap (λ t. bytes_eq (take 4 (drop (length t - 64 - 4) t)) closing) (sym same)
+      parted = ap (λ t. bytes_eq (take 4 (drop (length t - 64 - 4) t)) tag_separator) (sym same)
           ∙ ap (bytes_eq (take 4 (drop (start - 4) bytes))) (sym c.as_slice.ensures)
           ∙ ap (λ n. bytes_eq (take n (drop (start - 4) bytes)) c.as_slice.result.now) (sym four)
           ∙ not-false _ (sym c.if-ne.ensures);
-      spelling = c.range-spelled.ensures.value ∙ ap (λ n. take n (drop 8 rest)) count;
+      spelling = c.range-raw_name.ensures.value ∙ ap (λ n. take n (drop 8 rest)) count;
     }

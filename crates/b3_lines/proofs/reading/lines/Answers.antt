@@ -2,7 +2,7 @@ use Rattle.std.proofs.Common.{◌∙◌, ap, arith, length, map, refl, subst, sy
 use Rattle.std.specs.Prelude.{All}
 use Rattle.b3_lines.specs.Lines.{IsWithin, line_at, lines_of}
 use Rattle.b3_lines.proofs.LinesOf.{AreLines-lines_of, length-lines_of, lines_of-only}
-use Rattle.b3_lines.proofs.PlacesFrom.{Stand-lines_of, length-places_from}
+use Rattle.b3_lines.proofs.RangesFrom.{Stand-lines_of, length-ranges_from}
 use Rattle.b3_lines.proofs.reading.lines.Goals as goal
 
 pub returns-clause-lines : goal.returns-clause-lines
@@ -18,7 +18,7 @@ returns-clause-within c =
 pub returns-clause-count : goal.returns-clause-count
 returns-clause-count c =
     let text = c.args.text.now in
-    omega (arith, ap length c.new.ensures, length-places_from 0 (lines_of text), length-lines_of text)
+    omega (arith, ap length c.new.ensures, length-ranges_from 0 (lines_of text), length-lines_of text)
 
 pub returns-clause-are_lines : goal.returns-clause-are_lines
 returns-clause-are_lines c = AreLines-lines_of c.args.text.now

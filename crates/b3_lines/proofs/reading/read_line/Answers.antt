@@ -46,7 +46,7 @@ returns-clause-read c =
     let parts = c.in_ok-parts.parts in
     IsReadAs-from_SaysAs c.args.line.now parts.digest (string_bytes c.in_ok-name.name)
     (string_bytes c.in_ok-shown.shown)
-    (SaysAs-from_parts c.args.line.now parts.digest parts.spelled.now _ _ parts.marked parts.escapes
+    (SaysAs-from_parts c.args.line.now parts.digest parts.raw_name.now _ _ parts.marked parts.escapes
     c.in_ok-parts.ensures.taken
     c.in_ok-name.ensures c.in_ok-shown.ensures)
 
@@ -55,7 +55,7 @@ returns-clause-only c digest name shown reads =
     let parts = c.in_ok-parts.parts in
     SaysAs-same c.args.line.now parts.digest (string_bytes c.in_ok-name.name) (string_bytes c.in_ok-shown.shown) digest
     name shown
-    (SaysAs-from_parts c.args.line.now parts.digest parts.spelled.now _ _ parts.marked parts.escapes
+    (SaysAs-from_parts c.args.line.now parts.digest parts.raw_name.now _ _ parts.marked parts.escapes
     c.in_ok-parts.ensures.taken
     c.in_ok-name.ensures c.in_ok-shown.ensures)
     (SaysAs-from_IsReadAs c.args.line.now digest name shown reads)

@@ -3,7 +3,7 @@ use Rattle.std.proofs.lemmas.Bool.{false_from_ne_true}
 use Rattle.b3_lines.specs.Lines.{lines_of}
 use Rattle.b3_lines.specs.Names.{escaped}
 use Rattle.b3_lines.specs.Writing.{tagged_text}
-use Rattle.b3_lines.proofs.OneLine.{HasNoFeed-tagged, lines_of-one}
+use Rattle.b3_lines.proofs.OneLine.{HasNoLineFeed-tagged, lines_of-one}
 use Rattle.b3_lines.proofs.ReadBack.{ReadsTagged-tagged}
 use Rattle.b3_lines.proofs.Written.{tagged-written}
 use Rattle.b3_lines.proofs.tagging.write_tagged.Goals as goal
@@ -32,4 +32,4 @@ pub returns-clause-one_line : goal.returns-clause-one_line
 returns-clause-one_line c =
     let digest = c.args.digest.now in
     let name = c.args.name.now in
-    ap lines_of (returns-clause-written c) ∙ lines_of-one (tagged_text digest name) (HasNoFeed-tagged digest name)
+    ap lines_of (returns-clause-written c) ∙ lines_of-one (tagged_text digest name) (HasNoLineFeed-tagged digest name)

@@ -17,7 +17,7 @@ returns-then-is_empty-clause-bad_character c =
 pub returns-clause-begun : goal.returns-clause-begun
 returns-clause-begun c =
     let name = c.args.name.now in
-    let counted = c.count_escaped-escapes.ensures
+    let counted = c.count_to_escape-escapes.ensures
     ∙ ap (λ t. length (places is_escaped t)) c.as_bytes-name.ensures.value in
     c.in_ok-push_mark.ensures
     ∙ ap (λ m. c.in_ok-line.line.items ++ cond m (92 ∷ []) []) (is_marked-count name _ counted)

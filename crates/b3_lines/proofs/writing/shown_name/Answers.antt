@@ -12,7 +12,7 @@ use Rattle.b3_lines.proofs.writing.shown_name.Goals as goal
 pub returns-then-escapes-eq0-clause-shown : goal.returns-then-escapes-eq0-clause-shown
 returns-then-escapes-eq0-clause-shown c =
     let name = c.args.name.now in
-    let counted = c.count_escaped-escapes.ensures ∙ ap (λ t. length (places is_escaped t)) c.as_bytes.ensures.value in
+    let counted = c.count_to_escape-escapes.ensures ∙ ap (λ t. length (places is_escaped t)) c.as_bytes.ensures.value in
     let unmarked : is_marked name ≡ false =
     sym (is_marked-count name _ counted) ∙ ap (λ n. not (n == 0)) c.if-escapes-eq0.true in
     c.in_ok-from_str.ensures.ok ∙ sym (shown-unmarked name unmarked)
@@ -20,7 +20,7 @@ returns-then-escapes-eq0-clause-shown c =
 pub unwrap-requires : goal.unwrap-requires
 unwrap-requires c =
     let name = c.args.name.now in
-    let counted = c.count_escaped-escapes.ensures ∙ ap (λ t. length (places is_escaped t)) c.as_bytes.ensures.value in
+    let counted = c.count_to_escape-escapes.ensures ∙ ap (λ t. length (places is_escaped t)) c.as_bytes.ensures.value in
     let marked : is_marked name ≡ true =
     sym (is_marked-count name _ counted) ∙ ap not (ne_eqb _ 0 c.if-escapes-eq0.false) in
     let text_is : c.push_escaped.new.line.items ≡ shown name =
@@ -32,7 +32,7 @@ unwrap-requires c =
 pub returns-clause-shown : goal.returns-clause-shown
 returns-clause-shown c =
     let name = c.args.name.now in
-    let counted = c.count_escaped-escapes.ensures ∙ ap (λ t. length (places is_escaped t)) c.as_bytes.ensures.value in
+    let counted = c.count_to_escape-escapes.ensures ∙ ap (λ t. length (places is_escaped t)) c.as_bytes.ensures.value in
     let marked : is_marked name ≡ true =
     sym (is_marked-count name _ counted) ∙ ap not (ne_eqb _ 0 c.if-escapes-eq0.false) in
     let text_is : c.push_escaped.new.line.items ≡ shown name =

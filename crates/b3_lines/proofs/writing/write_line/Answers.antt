@@ -3,7 +3,7 @@ use Rattle.std.proofs.lemmas.Bool.{false_from_ne_true}
 use Rattle.b3_lines.specs.Lines.{lines_of}
 use Rattle.b3_lines.specs.Names.{escaped}
 use Rattle.b3_lines.specs.Writing.{plain_text}
-use Rattle.b3_lines.proofs.OneLine.{HasNoFeed-plain, lines_of-one}
+use Rattle.b3_lines.proofs.OneLine.{HasNoLineFeed-plain, lines_of-one}
 use Rattle.b3_lines.proofs.ReadBack.{Reads-plain}
 use Rattle.b3_lines.proofs.Written.{plain-written}
 use Rattle.b3_lines.proofs.writing.write_line.Goals as goal
@@ -31,4 +31,4 @@ pub returns-clause-one_line : goal.returns-clause-one_line
 returns-clause-one_line c =
     let digest = c.args.digest.now in
     let name = c.args.name.now in
-    ap lines_of (returns-clause-written c) ∙ lines_of-one (plain_text digest name) (HasNoFeed-plain digest name)
+    ap lines_of (returns-clause-written c) ∙ lines_of-one (plain_text digest name) (HasNoLineFeed-plain digest name)

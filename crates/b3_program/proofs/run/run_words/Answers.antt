@@ -2,7 +2,7 @@ use Rattle.std.proofs.Common.{◌≡◌, ◌≢◌, ℕ, suc, ◌^◌, ◌≤◌
 use Rattle.std.specs.Global.{Global}
 use Rattle.std.specs.Prelude.{String, string_bytes}
 use Rattle.std.proofs.lemmas.Bool.{cond_both, eqb-false, ltb-false}
-use Rattle.b3_check.specs.Options.{AreBounds}
+use Rattle.b3_check.specs.Options.{AreBounds, max_output_len}
 use Rattle.b3_check.specs.declared.options.Form.TheVariants.{Named, Bare, Raw, Tagged}
 use Rattle.b3_program.specs.Programs.{CanDo, names_of}
 use Rattle.b3_program.specs.Tasks.{check_options, sum_options, task_for, workers_of}
@@ -25,7 +25,7 @@ bounds : (n : Option ℕ) → AreBounds (workers_of n) (2 ^ 40) (2 ^ 30)
 bounds n = record { some_workers = workers-bounds n; some_turns = (omega arith, omega arith); fits = omega arith }
 
 -- how long an output is
-length-bound : (o : Option ℕ) → ((n : ℕ) → o ≡ Some n → n ≤ 1048576) → unwrap_or o 32 ≤ 1048576
+length-bound : (o : Option ℕ) → ((n : ℕ) → o ≡ Some n → n ≤ max_output_len) → unwrap_or o 32 ≤ max_output_len
 length-bound None within = omega arith
 length-bound (Some n) within = within n refl
 

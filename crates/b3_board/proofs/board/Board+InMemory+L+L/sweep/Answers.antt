@@ -1,13 +1,13 @@
 use Rattle.std.proofs.Common.{◌≡◌, ◌+◌, List, length, sum_by, rules, arith, sym, subst, ap, ◌∙◌}
 use Rattle.std.proofs.lemmas.List.{with_items_is}
 use Rattle.std.specs.Vec.{with_items}
-use Rattle.b3_core.specs.declared.tree.Span.{Span}
+use Rattle.b3_core.specs.declared.spans.Span.{Span}
 use Rattle.b3_board.specs.Entries.{kept_count, open_count, open_spans}
-use Rattle.b3_board.specs.Pictures.{IsLawful, Picture}
+use Rattle.b3_board.specs.BoardStates.{IsLawful, BoardState}
 use Rattle.b3_board.specs.Spans.{chunks_in}
 use Rattle.b3_board.specs.declared.entries.Entry.{Entry}
 use Rattle.b3_board.proofs.Deposits.{nil-from_none_open}
-use Rattle.b3_board.proofs.Picturing.{IsLawful-in_memory, lawful_picture, picture_of, sum_open}
+use Rattle.b3_board.proofs.LawfulStates.{IsLawful-in_memory, lawful_state, state_of, sum_open}
 use Rattle.b3_board.proofs.board.Board+InMemory+L+L.sweep.Goals as goal
 
 pub returns-clause-waiting : goal.returns-clause-waiting
@@ -18,7 +18,7 @@ returns-clause-waiting g c =
       c.close_all-count.ensures.waiting,
       c.as_mut_slice.ensures.value,
     ) in
-    subst (λ (p : Picture). c.close_all-count.result ≡ chunks_in p.open_spans) c.self.view_is (waiting
+    subst (λ (p : BoardState). c.close_all-count.result ≡ chunks_in p.open_spans) c.self.view_is (waiting
     ∙ sym (sum_open (λ (s : Span). s.count) board.entries.items))
 
 pub returns-clause-none_open : goal.returns-clause-none_open
@@ -31,15 +31,15 @@ returns-clause-none_open g c =
 
 pub returns-clause-same_input : goal.returns-clause-same_input
 returns-clause-same_input g c = record {
-  input_is = ap (λ (p : Picture). p.input) c.self.view_is;
-  mode_is = ap (λ (p : Picture). p.mode) c.self.view_is;
-  first_is = ap (λ (p : Picture). p.first) c.self.view_is;
+  input_is = ap (λ (p : BoardState). p.input) c.self.view_is;
+  mode_is = ap (λ (p : BoardState). p.mode) c.self.view_is;
+  first_is = ap (λ (p : BoardState). p.first) c.self.view_is;
 }
 
 pub returns-clause-lawful : goal.returns-clause-lawful
 returns-clause-lawful g c =
     let board = c.self.inside in
-    let l = g.L.Named in
+    let l = g.L.InputLedger in
     let items : (with_items board.entries c.close_all-count.new.entries).items ≡ c.close_all-count.new.entries =
     with_items_is board.entries c.close_all-count.new.entries (c.close_all-count.ensures.len
     ∙ ap length c.as_mut_slice.ensures.value ∙ sym board.entries.ok.0) in
@@ -49,9 +49,9 @@ returns-clause-lawful g c =
     let booked : sum_by kept_count c.close_all-count.new.entries ≡ c.credit.new.self.chunks =
     omega (arith, count, c.self.invariant.booked, c.credit.ensures.chunks) in
     let P : List Entry → Type 0 =
-    λ es. IsLawful (picture_of l.input l.mode l.first es c.credit.new.self.chunks) in
+    λ es. IsLawful (state_of l.input l.mode l.first es c.credit.new.self.chunks) in
     subst P (sym items)
-    (lawful_picture l.input l.mode l.first c.close_all-count.new.entries
+    (lawful_state l.input l.mode l.first c.close_all-count.new.entries
     c.close_all-count.ensures.lawful c.credit.new.self.chunks booked)
 
 pub returns-clause-tops : goal.returns-clause-tops

@@ -3,14 +3,14 @@ use Rattle.std.proofs.lemmas.Bool.{false≢true}
 use Rattle.std.proofs.lemmas.List.{with_items_is}
 use Rattle.std.specs.List.{Contains}
 use Rattle.std.specs.Vec.{with_items}
-use Rattle.b3_core.specs.declared.tree.Span.{Span}
+use Rattle.b3_core.specs.declared.spans.Span.{Span}
 use Rattle.b3_board.specs.Entries.{KeepsBoard, at, kept_chunk, kept_count, open_span}
-use Rattle.b3_board.specs.Pictures.{IsDeposit, IsLawful, Picture, Piece}
+use Rattle.b3_board.specs.BoardStates.{IsDeposit, IsLawful, BoardState, Piece}
 use Rattle.b3_board.specs.declared.entries.Entry.{Entry}
-use Rattle.b3_board.specs.Spans.{IsNodeOf, has}
+use Rattle.b3_board.specs.Spans.{IsNodeOf, chunk_in}
 use Rattle.b3_board.specs.declared.entries.State.TheVariants.{Open}
 use Rattle.b3_board.proofs.Deposits.{Contains-open, deposited, not_open}
-use Rattle.b3_board.proofs.Picturing.{lawful_picture, picture_of}
+use Rattle.b3_board.proofs.LawfulStates.{lawful_state, state_of}
 use Rattle.b3_board.proofs.OpenSpans.{open_count-closed, same_length}
 use Rattle.b3_board.proofs.board.Board.deposit_own.Goals as goal
 
@@ -20,7 +20,7 @@ returns-in_default-clause-ok g c =
     let none : (i : ℕ) → (at board.entries.items i).state ≡ Open → (at board.entries.items i).span ≢ c.own.inside.span =
     rw c.as_slice.ensures.value at c.in_default.ensures.none in
     let absent : ¬ Contains c.args.self.now.open_spans c.args.own.span =
-    subst (λ (p : Picture). ¬ Contains p.open_spans c.args.own.span) c.self.view_is
+    subst (λ (p : BoardState). ¬ Contains p.open_spans c.args.own.span) c.self.view_is
     (not_open board.entries.items c.args.own.span
     (λ i state_is span_is. none i state_is (span_is ∙ sym (ap (λ (d : Piece). d.span) c.own.view_is)))) in
     (λ h. absurd (false≢true h), λ own. absurd (absent own))
@@ -28,10 +28,10 @@ returns-in_default-clause-ok g c =
 pub returns-in_default-clause-lawful : goal.returns-in_default-clause-lawful
 returns-in_default-clause-lawful g c =
     let board = c.self.inside in
-    let l = g.L.Named in
+    let l = g.L.InputLedger in
     let kept = c.self.invariant in
     subst IsLawful c.self.view_is
-    (lawful_picture l.input l.mode l.first board.entries.items kept.lawful
+    (lawful_state l.input l.mode l.first board.entries.items kept.lawful
     board.account.chunks kept.booked)
 
 pub returns-clause-ok : goal.returns-clause-ok
@@ -40,21 +40,21 @@ returns-clause-ok g c =
     let found = rw c.as_slice.ensures.value at c.in-Some.ensures.found in
     let there = Contains-open board.entries.items c.in-Some.place c.args.own.span found.0 found.1 (found.2
     ∙ (ap (λ (d : Piece). d.span) c.own.view_is)) in
-    (λ h. subst (λ (p : Picture). Contains p.open_spans c.args.own.span) c.self.view_is there, λ h. refl)
+    (λ h. subst (λ (p : BoardState). Contains p.open_spans c.args.own.span) c.self.view_is there, λ h. refl)
 
 pub returns-clause-step : goal.returns-clause-step
 returns-clause-step g c =
     let board = c.self.inside in
-    let l = g.L.Named in
+    let l = g.L.InputLedger in
     let found = rw c.as_slice.ensures.value at c.in-Some.ensures.found in
     let opens : map open_span c.close_span.new.entries ≡ set (map open_span board.entries.items) c.in-Some.place None =
     search (rules, c.close_span.ensures.opens, c.as_mut_slice.ensures.value) in
     let span_is = ap (λ (d : Piece). d.span) c.own.view_is in
     let closed : Span = (at board.entries.items c.in-Some.place).span in
     let joins : (k : ℕ) → sum_by (kept_chunk k) c.close_span.new.entries
-    ≡ sum_by (kept_chunk k) board.entries.items + has k closed.first closed.count =
+    ≡ sum_by (kept_chunk k) board.entries.items + chunk_in k closed.first closed.count =
     λ k. search (rules, c.close_span.ensures.chunks k, c.as_mut_slice.ensures.value) in
-    let of : List Entry → ℕ → Picture = picture_of l.input l.mode l.first in
+    let of : List Entry → ℕ → BoardState = state_of l.input l.mode l.first in
     let step = deposited l.input l.mode l.first board.entries.items c.close_span.new.entries c.in-Some.place
     c.args.own.span board.account.chunks found.1 (found.2 ∙ span_is) opens joins in
     let book_is = c.credit.ensures.chunks ∙ ap (λ (s : Span). board.account.chunks + s.count) span_is in
@@ -64,7 +64,7 @@ returns-clause-step g c =
     with_items_is board.entries c.close_span.new.entries
     (same_length board.entries.items c.close_span.new.entries c.in-Some.place opens ∙ sym board.entries.ok.0) in
     let after = of c.close_span.new.entries c.credit.new.self.chunks in
-    let moved = subst (λ (p : Picture). IsDeposit p c.args.own.span after) c.self.view_is booked in
+    let moved = subst (λ (p : BoardState). IsDeposit p c.args.own.span after) c.self.view_is booked in
     let P : List Entry → Type 0 =
     λ es. IsDeposit c.args.self.now c.args.own.span (of es c.credit.new.self.chunks) in
     subst P (sym items) moved
@@ -72,7 +72,7 @@ returns-clause-step g c =
 pub returns-clause-lawful : goal.returns-clause-lawful
 returns-clause-lawful g c =
     let board = c.self.inside in
-    let l = g.L.Named in
+    let l = g.L.InputLedger in
     let found = rw c.as_slice.ensures.value at c.in-Some.ensures.found in
     let count : sum_by kept_count c.close_span.new.entries
     ≡ sum_by kept_count board.entries.items + (at board.entries.items c.in-Some.place).span.count =
@@ -85,15 +85,15 @@ returns-clause-lawful g c =
     with_items_is board.entries c.close_span.new.entries
     (same_length board.entries.items c.close_span.new.entries c.in-Some.place opens ∙ sym board.entries.ok.0) in
     let P : List Entry → Type 0 =
-    λ es. IsLawful (picture_of l.input l.mode l.first es c.credit.new.self.chunks) in
+    λ es. IsLawful (state_of l.input l.mode l.first es c.credit.new.self.chunks) in
     subst P (sym items)
-    (lawful_picture l.input l.mode l.first c.close_span.new.entries c.close_span.ensures.lawful
+    (lawful_state l.input l.mode l.first c.close_span.new.entries c.close_span.ensures.lawful
     c.credit.new.self.chunks booked)
 
 pub invariant_of-self : goal.invariant_of-self
 invariant_of-self g c =
     let board = c.self.inside in
-    let l = g.L.Named in
+    let l = g.L.InputLedger in
     let found = rw c.as_slice.ensures.value at c.in-Some.ensures.found in
     let count : sum_by kept_count c.close_span.new.entries
     ≡ sum_by kept_count board.entries.items + (at board.entries.items c.in-Some.place).span.count =
@@ -124,7 +124,7 @@ invariant_of-self g c =
 
 pub close_span-requires-clause-top : goal.close_span-requires-clause-top
 close_span-requires-clause-top g c =
-    let l = g.L.Named in
+    let l = g.L.InputLedger in
     let found = rw c.as_slice.ensures.value at c.in-Some.ensures.found in
     let top : IsNodeOf l.input l.mode l.first (at c.self.inside.entries.items c.in-Some.place).span c.own.inside.node =
     subst (λ (s : Span). IsNodeOf l.input l.mode l.first s c.own.inside.node) (sym found.2) c.own.invariant.node_is in

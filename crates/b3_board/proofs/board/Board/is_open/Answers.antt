@@ -2,13 +2,13 @@ use Rattle.std.proofs.Common.{◌≡◌, ◌≢◌, ℕ, ◌+◌, ◌<◌, ◌�
 use Rattle.std.proofs.lemmas.Bool.{false≢true}
 use Rattle.std.specs.List.{Contains}
 use Rattle.b3_core.specs.Tree.{chunks}
-use Rattle.b3_core.specs.declared.tree.Span.{Span}
+use Rattle.b3_core.specs.declared.spans.Span.{Span}
 use Rattle.b3_board.specs.Entries.{at}
-use Rattle.b3_board.specs.Pictures.{IsLawful, Picture}
+use Rattle.b3_board.specs.BoardStates.{IsLawful, BoardState}
 use Rattle.b3_board.specs.declared.entries.State.TheVariants.{Open}
 use Rattle.b3_board.proofs.Deposits.{Contains-open, not_open}
 use Rattle.b3_board.proofs.OpenSpans.{open_inside}
-use Rattle.b3_board.proofs.Picturing.{lawful_picture}
+use Rattle.b3_board.proofs.LawfulStates.{lawful_state}
 use Rattle.b3_board.proofs.board.Board.is_open.Goals as goal
 
 pub returns-in_default-clause-open : goal.returns-in_default-clause-open
@@ -17,26 +17,26 @@ returns-in_default-clause-open g c =
     let none : (i : ℕ) → (at es i).state ≡ Open → (at es i).span ≢ c.args.span =
     rw c.as_slice.ensures.value at c.in_default.ensures.none in
     let absent : ¬ Contains c.args.self.now.open_spans c.args.span =
-    subst (λ (p : Picture). ¬ Contains p.open_spans c.args.span) c.self.view_is (not_open es c.args.span none) in
+    subst (λ (p : BoardState). ¬ Contains p.open_spans c.args.span) c.self.view_is (not_open es c.args.span none) in
     (λ h. absurd (false≢true h), λ there. absurd (absent there))
 
 pub returns-in_default-clause-lawful : goal.returns-in_default-clause-lawful
 returns-in_default-clause-lawful g c =
-    let l = g.L.Named in
+    let l = g.L.InputLedger in
     let board = c.self.inside in
     subst IsLawful c.self.view_is
-    (lawful_picture l.input l.mode l.first board.entries.items c.self.invariant.lawful board.account.chunks
+    (lawful_state l.input l.mode l.first board.entries.items c.self.invariant.lawful board.account.chunks
     c.self.invariant.booked)
 
 pub returns-clause-open : goal.returns-clause-open
 returns-clause-open g c =
     let found = rw c.as_slice.ensures.value at c.in-Some.ensures.found in
     let there = Contains-open c.self.inside.entries.items c.in-Some._place c.args.span found.0 found.1 found.2 in
-    (λ h. subst (λ (p : Picture). Contains p.open_spans c.args.span) c.self.view_is there, λ h. refl)
+    (λ h. subst (λ (p : BoardState). Contains p.open_spans c.args.span) c.self.view_is there, λ h. refl)
 
 pub returns-clause-inside : goal.returns-clause-inside
 returns-clause-inside g c = λ h.
-    let l = g.L.Named in
+    let l = g.L.InputLedger in
     let es = c.self.inside.entries.items in
     let found = rw c.as_slice.ensures.value at c.in-Some.ensures.found in
     subst (λ (s : Span). s.first + s.count ≤ chunks l.input.len) found.2
@@ -44,7 +44,7 @@ returns-clause-inside g c = λ h.
 
 pub returns-clause-some : goal.returns-clause-some
 returns-clause-some g c = λ h.
-    let l = g.L.Named in
+    let l = g.L.InputLedger in
     let es = c.self.inside.entries.items in
     let found = rw c.as_slice.ensures.value at c.in-Some.ensures.found in
     subst (λ (s : Span). 0 < s.count) found.2
@@ -52,8 +52,8 @@ returns-clause-some g c = λ h.
 
 pub returns-clause-lawful : goal.returns-clause-lawful
 returns-clause-lawful g c =
-    let l = g.L.Named in
+    let l = g.L.InputLedger in
     let board = c.self.inside in
     subst IsLawful c.self.view_is
-    (lawful_picture l.input l.mode l.first board.entries.items c.self.invariant.lawful board.account.chunks
+    (lawful_state l.input l.mode l.first board.entries.items c.self.invariant.lawful board.account.chunks
     c.self.invariant.booked)

@@ -2,9 +2,9 @@ use Rattle.std.proofs.Common.{◌≡◌, [], ◌+◌, ◌<◌, ◌≤◌, arith,
 use Rattle.std.specs.List.{Contains, slice_get}
 use Rattle.std.specs.Option.{IfNone, IfSome}
 use Rattle.b3_core.specs.Tree.{chunks}
-use Rattle.b3_core.specs.declared.tree.Span.{Span}
+use Rattle.b3_core.specs.declared.spans.Span.{Span}
 use Rattle.b3_board.specs.Entries.{at, if_open, open_count, open_spans}
-use Rattle.b3_board.specs.Pictures.{Picture}
+use Rattle.b3_board.specs.BoardStates.{BoardState}
 use Rattle.b3_board.specs.declared.entries.State.{State}
 use Rattle.b3_board.proofs.Deposits.{first_open, first_open-Contains, first_open-none}
 use Rattle.b3_board.proofs.OpenSpans.{open_inside}
@@ -14,19 +14,19 @@ pub returns-clause-open : goal.returns-clause-open
 returns-clause-open g c =
     let es = c.self.inside.entries.items in
     let is : c.nth_open.result ≡ slice_get (open_spans es) 0 = rw c.as_slice.ensures.value at c.nth_open.ensures in
-    subst (λ (p : Picture). IfSome c.nth_open.result (Contains p.open_spans)) c.self.view_is
+    subst (λ (p : BoardState). IfSome c.nth_open.result (Contains p.open_spans)) c.self.view_is
     (first_open-Contains es c.nth_open.result is)
 
 pub returns-clause-none : goal.returns-clause-none
 returns-clause-none g c =
     let es = c.self.inside.entries.items in
     let is : c.nth_open.result ≡ slice_get (open_spans es) 0 = rw c.as_slice.ensures.value at c.nth_open.ensures in
-    subst (λ (p : Picture). IfNone c.nth_open.result (p.open_spans ≡ [])) c.self.view_is
+    subst (λ (p : BoardState). IfNone c.nth_open.result (p.open_spans ≡ [])) c.self.view_is
     (first_open-none es c.nth_open.result is)
 
 pub returns-clause-inside : goal.returns-clause-inside
 returns-clause-inside g c =
-    let l = g.L.Named in
+    let l = g.L.InputLedger in
     let es = c.self.inside.entries.items in
     let is : c.nth_open.result ≡ slice_get (open_spans es) 0 = rw c.as_slice.ensures.value at c.nth_open.ensures in
     first_open es (λ (s : Span). s.first + s.count ≤ chunks l.input.len)
@@ -34,7 +34,7 @@ returns-clause-inside g c =
 
 pub returns-clause-some : goal.returns-clause-some
 returns-clause-some g c =
-    let l = g.L.Named in
+    let l = g.L.InputLedger in
     let es = c.self.inside.entries.items in
     let is : c.nth_open.result ≡ slice_get (open_spans es) 0 = rw c.as_slice.ensures.value at c.nth_open.ensures in
     first_open es (λ (s : Span). 0 < s.count)

@@ -4,12 +4,12 @@ use Rattle.b3_core.specs.Tree.{chunks}
 use Rattle.b3_board.specs.declared.entries.Entry.{Entry}
 use Rattle.b3_board.specs.Entries.{Lawful, at, fresh, kept_count, open_count, open_spans, pieces}
 use Rattle.b3_board.proofs.Cuttings.{kept_none, lawful_new, open_count-fresh, open_spans-fresh, pieces-fresh}
-use Rattle.b3_board.proofs.Picturing.{lawful_picture}
+use Rattle.b3_board.proofs.LawfulStates.{lawful_state}
 use Rattle.b3_board.proofs.board.Board.open.Goals as goal
 
 pub invariant_of-board : goal.invariant_of-board
 invariant_of-board g c =
-    let l = g.L.Named in
+    let l = g.L.InputLedger in
     let spans = c.args.spans.now in
     let items : c.in_ok-entries.entries.items ≡ map fresh spans = c.in_ok-entries.ensures in
     record {
@@ -23,7 +23,7 @@ invariant_of-board g c =
 
 pub returns-clause-board : goal.returns-clause-board
 returns-clause-board g c =
-    let l = g.L.Named in
+    let l = g.L.InputLedger in
     let spans = c.args.spans.now in
     let items : c.in_ok-entries.entries.items ≡ map fresh spans = c.in_ok-entries.ensures in
     let opens : open_spans c.in_ok-entries.entries.items ≡ spans = ap open_spans items ∙ open_spans-fresh spans in
@@ -39,7 +39,7 @@ returns-clause-board g c =
 
 pub returns-clause-lawful : goal.returns-clause-lawful
 returns-clause-lawful g c =
-    let l = g.L.Named in
+    let l = g.L.InputLedger in
     let kept = invariant_of-board g c in
-    lawful_picture l.input l.mode l.first c.in_ok-entries.entries.items kept.lawful
+    lawful_state l.input l.mode l.first c.in_ok-entries.entries.items kept.lawful
     c.open-account.result.0.chunks kept.booked

@@ -1,9 +1,9 @@
 use Rattle.std.proofs.Common.{◌≡◌, ◌-◌, arith, subst}
-use Rattle.b3_core.specs.declared.tree.Span.{Span}
+use Rattle.b3_core.specs.declared.spans.Span.{Span}
 use Rattle.b3_board.specs.Entries.{open_spans}
-use Rattle.b3_board.specs.Pictures.{Picture}
+use Rattle.b3_board.specs.BoardStates.{BoardState}
 use Rattle.b3_board.specs.Spans.{chunks_in}
-use Rattle.b3_board.proofs.Picturing.{sum_open}
+use Rattle.b3_board.proofs.LawfulStates.{sum_open}
 use Rattle.b3_board.proofs.board.Board.waiting.Goals as goal
 
 pub returns-clause-open : goal.returns-clause-open
@@ -18,4 +18,4 @@ returns-clause-open g c =
       kept.lawful.sound.all,
       kept.booked,
     ) in
-    subst (λ (p : Picture). c.size.result - board.account.chunks ≡ chunks_in p.open_spans) c.self.view_is here
+    subst (λ (p : BoardState). c.size.result - board.account.chunks ≡ chunks_in p.open_spans) c.self.view_is here

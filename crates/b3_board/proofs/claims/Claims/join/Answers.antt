@@ -1,8 +1,8 @@
 use Rattle.std.proofs.Common.{◌≤◌, ◌+◌, ◌++◌, ℕ, List, length, subst, sym, ap, ◌∙◌, arith, length-append}
 use Rattle.atomic_table.specs.Table.{Me}
 use Rattle.b3_board.specs.declared.claim_rule.View.{View}
-use Rattle.b3_board.specs.Claiming.{IsSound}
-use Rattle.b3_board.specs.Seats.{Indexes, KeepsSeat}
+use Rattle.b3_board.specs.ClaimRule.{IsSound, KeepsSeat}
+use Rattle.b3_board.specs.Seats.{ClaimsState}
 use Rattle.b3_board.proofs.ClaimedIndexes.{length-united}
 use Rattle.b3_board.proofs.ClaimSteps.{Allows-Told, Joins-joined}
 use Rattle.b3_board.proofs.SeatViews.{IsSeatOf-kept, IsSeatOf-same, KeepsSeat-joined, use_OnOk}
@@ -84,5 +84,5 @@ returns-clause-few c =
       ap (λ (me : Me (Unit {0}) View). length me.0.seen) c.join_seat.ensures.2,
       length-united v.seen w.seen (own.1 ∙ sym theirs.1),
       own.1,
-      ap (λ (u : Indexes). u.count) c.self.view_is,
+      ap (λ (u : ClaimsState). u.count) c.self.view_is,
     )

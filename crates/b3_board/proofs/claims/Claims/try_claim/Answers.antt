@@ -2,7 +2,8 @@ use Rattle.std.proofs.Common.{◌≡◌, eq-eqb, ne_eqb, true, false, length, re
 use Rattle.atomic_table.specs.Table.{Me}
 use Rattle.b3_board.specs.declared.claim_rule.View.{View}
 use Rattle.b3_board.specs.Claiming.{tried}
-use Rattle.b3_board.specs.Seats.{Indexes, KeepsSeat}
+use Rattle.b3_board.specs.Seats.{ClaimsState}
+use Rattle.b3_board.specs.ClaimRule.{KeepsSeat}
 use Rattle.b3_board.proofs.ClaimSteps.{Allows-Tried}
 use Rattle.b3_board.proofs.SeatViews.{IsSeatOf-kept, IsSeatOf-same, KeepsSeat-lost}
 use Rattle.b3_board.proofs.claims.Claims.try_claim.Goals as goal
@@ -10,7 +11,7 @@ use Rattle.b3_board.proofs.claims.Claims.try_claim.Goals as goal
 pub swap-found-requires : goal.swap-found-requires
 swap-found-requires c =
     let own = IsSeatOf-same c.self.view_is c.seat.view_is c.requires.own in
-    let count = ap (λ (u : Indexes). u.count) c.self.view_is in
+    let count = ap (λ (u : ClaimsState). u.count) c.self.view_is in
     let keeps = c.seat.invariant in (
       own.0,
       omega (arith, c.self.inside.sized, c.requires.index, count),

@@ -1,6 +1,6 @@
 use Rattle.std.proofs.Common.{◌≡◌, ℕ, ◌+◌, ◌-◌, ◌*◌, ◌≤◌, min, List, length, take, drop, Some, arith, sym, ap, ◌∙◌}
 use Rattle.std.proofs.lemmas.List.{length-take-le, take_all}
-use Rattle.b3_board.specs.Spans.{Known}
+use Rattle.b3_board.specs.Spans.{KnownInput}
 use Rattle.b3_board.proofs.RegionBytes.{region_part}
 use Rattle.b3_board.proofs.source_plan.SourcePlan.read.Goals as goal
 
@@ -25,6 +25,6 @@ of_bytes-requires-clause-told g c =
     ∙ c.in-Some.ensures.bytes whole is
     ∙ ap (λ (n : ℕ). take n (drop (plan.offset + here) whole)) (count ∙ full ∙ len) in
     λ all known.
-    let is = ap (λ (k : Known). k.told) c.requires.own.input_is ∙ known in
+    let is = ap (λ (k : KnownInput). k.told) c.requires.own.input_is ∙ known in
     let h = region_part told plan.offset plan.len span bytes plan.there low read all is in
-    (h.0 ∙ ap (λ (k : Known). k.len) c.requires.own.input_is, h.1)
+    (h.0 ∙ ap (λ (k : KnownInput). k.len) c.requires.own.input_is, h.1)

@@ -1,8 +1,8 @@
 use Rattle.b3_board.specs.Spans.{in_memory}
 use Rattle.b3_board_tests.proofs.tests.memory.growths.Given as goal
 
-abbrev pub ghosts-growths_on-L-Named : goal.ghosts-growths_on-L-Named
-ghosts-growths_on-L-Named g a = record { input = in_memory a.plan.now.input; mode = a.plan.now.mode; first = a.plan.now.first }
+abbrev pub ghosts-growths_on-L-InputLedger : goal.ghosts-growths_on-L-InputLedger
+ghosts-growths_on-L-InputLedger g a = record { input = in_memory a.plan.now.input; mode = a.plan.now.mode; first = a.plan.now.first }
 
 abbrev pub ghosts-growths_on-L-Ledger : goal.ghosts-growths_on-L-Ledger
 ghosts-growths_on-L-Ledger g a = record { name = a.blank.name; parts = a.blank.parts }

@@ -1,14 +1,14 @@
 use Rattle.std.proofs.Common.{◌≡◌, ◌+◌, ◌*◌, ◌≤◌, map, string_bytes, take}
 use Rattle.b3_check.specs.Checks.{lists_script}
-use Rattle.b3_check.specs.Devices.{loans, scene_of}
+use Rattle.b3_check.specs.Devices.{loans, io_state_of}
 use Rattle.b3_check.specs.Runs.{Ran}
-use Rattle.b3_check.specs.Tallies.{counted}
+use Rattle.b3_check.specs.Tasks.{counted}
 use Rattle.b3_check.proofs.check.Checker.check_all.Given as goal
 
 -- the lists so far are checked
 abbrev pub invariant-loop-list : goal.invariant-loop-list
 invariant-loop-list g l =
-    let seen = scene_of g.S.Shelf g.O.Sink g.E.Sink in
+    let seen = io_state_of g.S.Shelf g.O.Sink g.E.Sink in
     record {
       ran : Ran (lists_script l.fn.self.options (map string_bytes (take l.list-index l.lists))) (seen l.fn.devices)
           (seen l.devices) l.tally;

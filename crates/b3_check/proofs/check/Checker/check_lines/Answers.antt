@@ -11,7 +11,7 @@ use Rattle.b3_check.proofs.check.Checker.check_lines.Goals as goal
 -- a list has no more lines than bytes
 pub run-requires : goal.run-requires
 run-requires g c = λ _.
-    let few = c.new-agenda.ensures.few in
+    let few = c.new-work.ensures.few in
     let text = ap (λ (xs : List ℕ). length xs) c.text.ensures in
     let size = c.requires.text in
     let ok = c.args.self.now.reader.text.ok.0 in (
@@ -29,9 +29,9 @@ run-requires g c = λ _.
                 (
                   omega (arith, few, text, size, ok, c.args.self.now.largest),
                   record {
-                    shelf = omega (arith, c.requires.room.shelf, few, text, size, ok);
-                    out = c.requires.room.out;
-                    err = c.requires.room.err;
+                    shelf = omega (arith, c.requires.countable.shelf, few, text, size, ok);
+                    out = c.requires.countable.out;
+                    err = c.requires.countable.err;
                   },
                 ),
               ),
@@ -47,7 +47,7 @@ returns-in_err-tally-clause-run g c =
     let checker = c.args.self.now in
     let list = c.args.name.now in
     let stopped = rw (
-      c.new-agenda.ensures.lines,
+      c.new-work.ensures.lines,
       c.text.ensures,
       checker.range,
       checker.same_limits,
@@ -61,7 +61,7 @@ returns-in_err-message-clause-run g c =
     let checker = c.args.self.now in
     let list = c.args.name.now in
     let ran = rw (
-      c.new-agenda.ensures.lines,
+      c.new-work.ensures.lines,
       c.text.ensures,
       checker.range,
       tasks_script-lines checker.options list 1 (lines_of checker.reader.text.items),
@@ -74,7 +74,7 @@ returns-in_err-say-clause-run g c =
     let checker = c.args.self.now in
     let list = c.args.name.now in
     let ran = rw (
-      c.new-agenda.ensures.lines,
+      c.new-work.ensures.lines,
       c.text.ensures,
       checker.range,
       tasks_script-lines checker.options list 1 (lines_of checker.reader.text.items),
@@ -88,7 +88,7 @@ returns-clause-run g c =
     let checker = c.args.self.now in
     let list = c.args.name.now in
     let ran = rw (
-      c.new-agenda.ensures.lines,
+      c.new-work.ensures.lines,
       c.text.ensures,
       checker.range,
       tasks_script-lines checker.options list 1 (lines_of checker.reader.text.items),

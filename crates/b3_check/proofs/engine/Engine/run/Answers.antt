@@ -3,7 +3,7 @@ use Rattle.std.proofs.lemmas.List.Elements.{All-nil}
 use Rattle.std.proofs.lemmas.Result.{err_from_is_err_and}
 use Rattle.b3_check.specs.Contents.{Contents}
 use Rattle.b3_check.specs.Prefetch.{IsRight}
-use Rattle.b3_check.specs.Runs.{sheet}
+use Rattle.b3_check.specs.Runs.{sink_state}
 use Rattle.b3_check.specs.Tasks.{task_of}
 use Rattle.b3_check.proofs.OwingLemmas.{owing_found, stopped_found, stopped_owing}
 use Rattle.b3_check.proofs.TaskLemmas.{so_far_all, so_far_more, so_far_none, so_far_refused, so_far_stopped, so_far_unwritten}
@@ -48,7 +48,7 @@ returns-in_err-message-clause-run g c =
     let message = c.in_err-message.ensures in
     let stopped = rw (held.limits, held.range) at message.finds in
     rw (p.1, p.2) (so_far_stopped (task_of c.in-Some.queued.item) so_far
-    (stopped_owing c.loop-prefetch.lines.items stopped (ap (λ out. sheet g.O.Sink out) message.unsaid)))
+    (stopped_owing c.loop-prefetch.lines.items stopped (ap (λ out. sink_state g.O.Sink out) message.unsaid)))
 
 pub returns-in_err-say_after-clause-run : goal.returns-in_err-say_after-clause-run
 returns-in_err-say_after-clause-run g c =

@@ -9,8 +9,8 @@ on_ok : {T E : Type 0} (r : Result T E) (P : Type 0) → IsTrue (is_ok r) → On
 on_ok (Ok x) P is p = p
 on_ok (Err e) P is p = absurd (cc is)
 
-pub returns-then-content-longest-clause-content : goal.returns-then-content-longest-clause-content
-returns-then-content-longest-clause-content c = λ is.
+pub returns-then-content-max_len-clause-content : goal.returns-then-content-max_len-clause-content
+returns-then-content-max_len-clause-content c = λ is.
     let first = c.in-Some.ensures.found in
     let files = c.args.self.now.files.items in
     let file = slice_get_read files (length files) c.in-Some.k c.index.result.now refl first.within c.index.ensures in

@@ -9,9 +9,9 @@ returns-clause-bytes c = λ _.
     (arith, ap length c.deref.ensures.value, c.in-Some-get.ensures.lookup.3.0) in
     let is : c.in-Some-get.file.now ≡ get_or files c.in-Some.k c.in-Some-get.file.now = cc
     (c.in-Some-get.ensures.lookup.1, c.deref.ensures.value) in
-    let start : c.min.result ≡ min c.args.self.now.given (length c.deref-2.result.now) = cc
+    let start : c.min.result ≡ min c.args.self.now.consumed (length c.deref-2.result.now) = cc
     (c.min.ensures, c.len.ensures) in
     shelf_gives files c.args.self.now.begun c.in-Some.k _ _ c.min.result c.in-Some-get.file.now c.deref-2.result.now
-    c.args.room.now _
+    c.args.buffer.now _
     c.in-Some.is within is c.deref-2.ensures.value start c.min-count.ensures c.copy_from_slice.ensures.after
-    c.requires.room
+    c.requires.buffer

@@ -13,9 +13,9 @@ returns-clause-bytes c = λ _.
     (c.in_ok-file.ensures.lookup.1, c.deref.ensures.value) in
     let begun_is = c.in_ok-k.was in
     let content = c.deref-2.result.now in
-    let start_is : c.in_ok-start.start ≡ shelf.given + c.args.offset = search rules in
+    let start_is : c.in_ok-start.start ≡ shelf.consumed + c.args.offset = search rules in
     let rest_is = take_rest content c.in_ok-start.start ∙ ap (λ n. drop n content) start_is in
-    shelf_gives_at files shelf.begun c.in_ok-k.k shelf.given c.args.offset c.min-count.result c.in_ok-file.file.now
+    shelf_gives_at files shelf.begun c.in_ok-k.k shelf.consumed c.args.offset c.min-count.result c.in_ok-file.file.now
     content c.args.buffer.now c.copy_from_slice.new.self begun_is within is c.deref-2.ensures.value
     (c.min-count.ensures ∙ ap (λ bytes. min (length bytes) (length c.args.buffer.now)) rest_is)
     (c.copy_from_slice.ensures.after ∙ c.split_at.ensures.front ∙ ap (take c.min-count.result) rest_is)

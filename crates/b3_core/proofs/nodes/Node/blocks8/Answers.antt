@@ -3,7 +3,7 @@ use Rattle.std.proofs.lemmas.List.{take_all}
 use Rattle.std.proofs.lemmas.Slice.{overwrites}
 use borrow.Rule.Slice.PartMut.{put_mid}
 use Rattle.b3_core.specs.Words.{bytes_of}
-use Rattle.b3_core.specs.Compression.{compress, output}
+use Rattle.b3_core.specs.Compression.{compress, output_words}
 use Rattle.b3_core.specs.Nodes.{output_block}
 use Rattle.b3_core.specs.Lanes.{lane}
 use Rattle.b3_core.specs.Output.{output_bytes}
@@ -23,12 +23,12 @@ lanes-preserved c =
     let lt : j < 8 = omega arith in
     let flags = bit_or node.d 8 in
     let words =
-    c.words_of_both-words.ensures
-    ∙ (λ i. c.turned8-front.ensures.lanes j lt i ++ c.turned8-back.ensures.lanes j lt i)
-    ∙ (λ i. c.front8.ensures.lanes j (lane j c.spread-h.result) lt i ++ c.back8.ensures.lanes j lt i)
-    ∙ (λ i. output (c.states8-v.ensures.lanes j (first + j) lt (c.counters_from.ensures.low j lt)
-    (c.counters_from.ensures.high j lt) i) (lane j c.spread-h.result))
-    ∙ (λ i. compress (c.spread-h.ensures.lanes j lt i) (c.spread_message-m.ensures.lanes j lt i) (first + j)
+    c.concatenated-words.ensures
+    ∙ (λ i. c.transposed8-front.ensures.lanes j lt i ++ c.transposed8-back.ensures.lanes j lt i)
+    ∙ (λ i. c.first_words8.ensures.lanes j (lane j c.broadcast-h.result) lt i ++ c.last_words8.ensures.lanes j lt i)
+    ∙ (λ i. output_words (c.final_states8-v.ensures.lanes j (first + j) lt (c.counters_from.ensures.low j lt)
+    (c.counters_from.ensures.high j lt) i) (lane j c.broadcast-h.result))
+    ∙ (λ i. compress (c.broadcast-h.ensures.lanes j lt i) (c.broadcast_message-m.ensures.lanes j lt i) (first + j)
     node.b flags) in
     let block : c.bytes_of.result ≡ output_block node (first + j) = c.bytes_of.ensures ∙ ap bytes_of words in
     let at : 64 * (first + j) ≡ 64 * first + 64 * j = omega arith in

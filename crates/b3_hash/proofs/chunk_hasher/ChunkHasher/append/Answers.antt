@@ -1,16 +1,20 @@
 use Rattle.std.proofs.Common.{◌≡◌, ◌<◌, ◌++◌, ◌∙◌, length, sym, ap, subst, append_assoc, arith}
 use Rattle.std.proofs.lemmas.Bool.{eqb-false, eqb-true}
 use Rattle.std.proofs.lemmas.List.{append-nil, nil_from_length, take-append-drop}
-use Rattle.b3_hash.specs.OpenChunks.{begun_len}
-use Rattle.b3_hash.specs.ChunkHashers.{EndsWithChunk, Chunks}
+use Rattle.b3_hash.specs.OpenChunks.{chunk_state_len}
+use Rattle.b3_hash.specs.ChunkHashers.{EndsWithChunk, ChunkHasherState}
 use Rattle.b3_hash.specs.Hashers.{EndsWith}
-use Rattle.b3_hash.proofs.Standing.{IsAllClosed-none, begun_len-begun_of, length-EndsWithChunk}
+use Rattle.b3_hash.proofs.Standing.{IsAllClosed-none, chunk_state_len-chunk_state_of, length-EndsWithChunk}
 use Rattle.b3_hash.proofs.chunk_hasher.ChunkHasher.append.Goals as goal
 
-pub returns-then-begun-eq0-clause-ends_with : goal.returns-then-begun-eq0-clause-ends_with
-returns-then-begun-eq0-clause-ends_with c = λ before held.
-    let empty : begun_len c.args.self.now.begun ≡ 0 =
-    omega (arith, begun_len-begun_of c.self.inside.last, ap (λ (s : Chunks). begun_len s.begun) c.self.view_is) in
+pub returns-then-filled-eq0-clause-ends_with : goal.returns-then-filled-eq0-clause-ends_with
+returns-then-filled-eq0-clause-ends_with c = λ before held.
+    let empty : chunk_state_len c.args.self.now.chunk_state ≡ 0 =
+    omega (
+      arith,
+      chunk_state_len-chunk_state_of c.self.inside.last,
+      ap (λ (s : ChunkHasherState). chunk_state_len s.chunk_state) c.self.view_is,
+    ) in
     let len = length-EndsWithChunk c.args.self.now before held in
     let closed = IsAllClosed-none c.args.self.now before held empty in
     c.append_chunks.ensures.ends_with before closed (λ some. let more = held.further some in absurd (omega arith))

@@ -1,6 +1,6 @@
 use Rattle.std.proofs.Common.{◌≡◌, ◌<◌, ◌≤◌, ◌^◌, [], length, sym, ap, subst, arith}
-use Rattle.b3_hash.specs.OpenChunks.{begun_of}
-use Rattle.b3_hash.specs.ChunkHashers.{IsAllClosed, Chunks}
+use Rattle.b3_hash.specs.Private.{chunk_state_of}
+use Rattle.b3_hash.specs.ChunkHashers.{IsAllClosed, ChunkHasherState}
 use Rattle.b3_hash.proofs.Standing.{EndsWithChunk-begin, EndsWithWindow-begin}
 use Rattle.b3_hash.proofs.chunk_hasher.ChunkHasher.append_chunks.Goals as goal
 
@@ -10,10 +10,12 @@ returns-then-level-gt0-clause-ends_with c = λ before closed more.
     let input = c.args.input.now in
     let pushed = c.push_all_but_last-level.new.self in
     let chunks = c.push_all_but_last-level.ensures in
-    let closed = subst (λ (s : Chunks). IsAllClosed s before) (sym c.self.view_is) closed in
+    let closed = subst (λ (s : ChunkHasherState). IsAllClosed s before) (sym c.self.view_is) closed in
     EndsWithWindow-begin inside.mode inside.closed.chunks pushed.chunks c.push_all_but_last-level.result.1
-    pushed.values.items (begun_of inside.last) before input c.push_all_but_last-level.result.0.now c.top-node.result
-    closed.whole chunks.forward chunks.len chunks.rest (chunks.values before closed.whole closed.stack) closed.begun
+    pushed.values.items (chunk_state_of inside.last) before input c.push_all_but_last-level.result.0.now
+    c.top-node.result
+    closed.whole chunks.forward chunks.len chunks.rest (chunks.values before closed.whole closed.stack)
+    closed.chunk_state
     (chunks.full c.if-level-gt0.true) c.top-node.ensures.value
 
 pub returns-clause-ends_with : goal.returns-clause-ends_with
@@ -23,10 +25,12 @@ returns-clause-ends_with c = λ before closed more.
     let pushed = c.push_all_but_last-level.new.self in
     let chunks = c.push_all_but_last-level.ensures in
     let rest = c.push_all_but_last-level.result.0.now in
-    let closed = subst (λ (s : Chunks). IsAllClosed s before) (sym c.self.view_is) closed in
-    let more = subst (λ (s : Chunks). 0 < s.count → 0 < length input) (sym c.self.view_is) more in
+    let closed = subst (λ (s : ChunkHasherState). IsAllClosed s before) (sym c.self.view_is) closed in
+    let more = subst (λ (s : ChunkHasherState). 0 < s.count → 0 < length input) (sym c.self.view_is) more in
     let level : c.push_all_but_last-level.result.1 ≡ 0 = omega (arith, c.if-level-gt0.false) in
     let short : length rest ≤ 1024 = omega (arith, chunks.last, ap (λ k. 2 ^ k) level) in
-    EndsWithChunk-begin inside.mode inside.closed.chunks pushed.chunks pushed.values.items (begun_of c.append.new.self)
+    EndsWithChunk-begin inside.mode inside.closed.chunks pushed.chunks pushed.values.items
+    (chunk_state_of c.append.new.self)
     before input rest closed.whole chunks.forward chunks.len chunks.rest more chunks.some short
-    (chunks.values before closed.whole closed.stack) (c.append.ensures.begun [] (closed.begun pushed.chunks))
+    (chunks.values before closed.whole closed.stack)
+    (c.append.ensures.chunk_state [] (closed.chunk_state pushed.chunks))

@@ -1,7 +1,7 @@
 use Rattle.std.proofs.Common.{◌≡◌, ℕ, ◌*◌, ◌%◌, ◌^◌, ◌≤◌, ◌<◌, ◌++◌, ◌∙◌, List, length, sym, ap, subst, arith}
 use Rattle.std.proofs.lemmas.List.{drop_at, length-append}
 use Rattle.b3_core.specs.Tree.{top}
-use Rattle.b3_hash.specs.ChunkHashers.{IsAllClosed, Chunks}
+use Rattle.b3_hash.specs.ChunkHashers.{IsAllClosed, ChunkHasherState}
 use Rattle.b3_hash.proofs.Merging.{stack_of-append}
 use Rattle.b3_hash.proofs.chunk_hasher.ChunkHasher.root_over.Goals as goal
 
@@ -11,7 +11,7 @@ returns c =
     let mode = inside.mode in
     let count = inside.closed.chunks in
     let last = c.args.last in
-    subst (λ (s : Chunks). (level : ℕ) (before run : List ℕ) → level ≤ 54 → s.count % 2 ^ level ≡ 0
+    subst (λ (s : ChunkHasherState). (level : ℕ) (before run : List ℕ) → level ≤ 54 → s.count % 2 ^ level ≡ 0
     → IsAllClosed s before → last ≡ top s.mode s.count run → length run ≤ 1024 * 2 ^ level
     → (0 < s.count → 0 < length run) → c.root.result ≡ top s.mode 0 (before ++ run)) c.self.view_is
     (λ level before run low aligned held last_is fits some.

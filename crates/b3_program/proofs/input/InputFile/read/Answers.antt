@@ -6,7 +6,7 @@ pub returns-then-not-load-clause-bytes : goal.returns-then-not-load-clause-bytes
 returns-then-not-load-clause-bytes g c = λ input_tells file_tells.
     let reopened = c.args.self.now in
     let same = rw c.if-self.true at c.requires.in_step input_tells file_tells in
-    let offset : reopened.start + (c.args.given + c.in-Ok.count) ≡ reopened.start + c.args.given + c.in-Ok.count =
+    let offset : reopened.start + (c.args.consumed + c.in-Ok.count) ≡ reopened.start + c.args.consumed + c.in-Ok.count =
     omega arith in
     rw offset (gives_same _ _ _ _ _ c.in-Ok.count same (c.in-Ok.ensures.bytes input_tells))
 
@@ -14,7 +14,7 @@ pub returns-then-not-load-clause-in_step : goal.returns-then-not-load-clause-in_
 returns-then-not-load-clause-in_step g c = λ input_tells file_tells.
     let reopened = c.args.self.now in
     let same = rw c.if-self.true at c.requires.in_step input_tells file_tells in
-    let offset : reopened.start + (c.args.given + c.in-Ok.count) ≡ reopened.start + c.args.given + c.in-Ok.count =
+    let offset : reopened.start + (c.args.consumed + c.in-Ok.count) ≡ reopened.start + c.args.consumed + c.in-Ok.count =
     omega arith in
     let x = g.I.Stream.content reopened.input in
     let a = g.I.Stream.position reopened.input in

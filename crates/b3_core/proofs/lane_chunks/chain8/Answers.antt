@@ -1,5 +1,0 @@
-use Rattle.std.proofs.Common.{◌∙◌}
-use Rattle.b3_core.proofs.lane_chunks.chain8.Goals as goal
-
-pub returns : goal.returns
-returns c j lt = c.all_listed.ensures j lt ∙ c.chain_eight-h.ensures.lanes j lt

@@ -1,7 +1,0 @@
-use Rattle.std.proofs.Common.{refl, inr}
-use Rattle.b3_core.proofs.Rotations.{mixed-bytes}
-use Rattle.b3_core.proofs.lane_rotations.mixed_by_16.Goals as goal
-
-pub returns : goal.returns
-returns c =
-    mixed-bytes c.args.x c.args.y 2 16 refl (inr refl) c.requires.x c.requires.y c.fits-x.1 c.fits-y.1

@@ -1,0 +1,6 @@
+use Rattle.std.proofs.Common.{sym}
+use Rattle.b3_core.proofs.LaneWords.{lane-elements}
+use Rattle.b3_core.proofs.lanes.lane_words.Goals as goal
+
+pub returns : goal.returns
+returns c = sym (lane-elements c.args.j 8 c.args.v.now c.requires.wide.0)

@@ -1,6 +1,0 @@
-use Rattle.std.proofs.Common.{sym}
-use Rattle.b3_core.proofs.LaneWords.{lane-elements}
-use Rattle.b3_core.proofs.lanes.listed.Goals as goal
-
-pub returns : goal.returns
-returns c = sym (lane-elements c.args.j 8 c.args.v.now c.requires.wide.0)
