@@ -16,7 +16,8 @@
 #                   workers, and the library beside the original C code, where that is installed; writes the tables of
 #                   README.md and docs/BENCH.md, and docs/bench.svg; ends with 1 if a row is slower than is wanted
 # make imports      compares the names that the program imports from the C library with a list
-# make audit        compares docs/AUDIT.md with the files that it names, and with what the laws and contracts cite
+# make audit        compares docs/AUDIT.md with the files that it names, and with what the laws and contracts cite; and
+#                   completions/ with the table of options
 # make statements   prints the laws and all that they cite, as one text in reading order
 # make cheat EDIT=crates/NAME/must-fail/WRONG.edit
 #                   tries one wrong body, which the prover must refuse
@@ -120,6 +121,7 @@ imports: b3sum
 
 audit:
 	tools/audit
+	tools/completions
 
 statements:
 	@tools/statements

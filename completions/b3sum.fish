@@ -1,0 +1,20 @@
+# Completes the arguments of b3sum in fish.
+# Made by tools/completions from the table of options.
+
+complete -c b3sum -s c -l check -d 'Read lists of digests, and check the files that they name'
+complete -c b3sum -l quiet -d 'With --check, say nothing of files that are OK'
+complete -c b3sum -l ignore-missing -d 'With --check, pass over files that are missing'
+complete -c b3sum -l status -d 'With --check, write nothing; the status alone tells'
+complete -c b3sum -l strict -d 'With --check, fail where a list has no check line'
+complete -c b3sum -s w -l warn -d 'With --check, name the list of each malformed line'
+complete -c b3sum -l keyed -d 'Key the hash by the 32 bytes of standard input'
+complete -c b3sum -l derive-key -x -d 'Take each file as key material, and derive a key from it under CONTEXT'
+complete -c b3sum -s l -l length -x -d 'Write N bytes of output, 0 to 1048576; without it 32'
+complete -c b3sum -l seek -x -d 'Write the output from its byte N on; without it from 0'
+complete -c b3sum -l raw -d 'Write the output bytes themselves, of one file'
+complete -c b3sum -l no-names -d 'Write the digests without names'
+complete -c b3sum -l tag -d 'Write each line as BLAKE3 (FILE) = DIGEST; --check reads both forms'
+complete -c b3sum -l num-threads -x -d 'Hash with N threads, at most 64; 4 where N is 0, and without it'
+complete -c b3sum -l no-mmap -d 'Change nothing: files are never mapped into memory'
+complete -c b3sum -s h -l help -d 'Print help'
+complete -c b3sum -s V -l version -d 'Print version'
