@@ -8,7 +8,8 @@
 #
 # Beside the gate, over what is built:
 # make compare      runs the program beside the installed b3sum, on the same inputs, trees and lists
-# make faults       runs it with full devices, closed streams, broken lists, odd names and files that change
+# make faults       runs it with full devices, closed streams, broken lists, odd names and files that change; compares
+#                   the options of its help with completions/
 # make refused      refuses each growth of memory in turn
 # make soak         runs it for two minutes on random trees and lists, with outputs, memory and descriptors that fail
 # make lib-test     calls the library from C, C++ and Python programs; it needs a C compiler

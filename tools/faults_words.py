@@ -14,7 +14,12 @@ NOT_THE_KEY = "b3sum: the key is not 32 bytes\n"
 WORDS_FAULT = re.compile(rb"error: .+", re.DOTALL)
 VERSION = re.compile(rb"b3sum \d+\.\d+\.\d+\n")
 LAST_PLACE = str((1 << 64) - 1)
-MAN_PAGE = Path(__file__).resolve().parent.parent / "b3sum.1"
+ROOT = Path(__file__).resolve().parent.parent
+MAN_PAGE = ROOT / "b3sum.1"
+# An option of the help and of the completions of zsh and fish: its short form, its name, a mark of a value, its help.
+HELP_OPTION = re.compile(r"^ +(?:-(\w), )?--([\w-]+)( <\w+>)? +(.+)$", re.MULTILINE)
+ZSH_OPTION = re.compile(r"^ +'(?:\(.*?\)'\{-(\w)\+?,)?--([\w-]+)(=)?(?:\}')?(?:\[(.+)\])?", re.MULTILINE)
+FISH_OPTION = re.compile(r"^complete -c b3sum(?: -s (\w))? -l ([\w-]+)( -x)?(?: -d '(.+)')?", re.MULTILINE)
 # The options that cannot be used with --check, in the order in which they are refused, with their values.
 EXCLUDED = {"--keyed": [], "--derive-key": ["c"], "--length": ["32"], "--seek": ["0"], "--raw": [], "--no-names": [],
             "--tag": []}
@@ -85,6 +90,32 @@ def help_and_version(faults):
         for pattern in in_page:
             told_in_page = re.findall(pattern, page)
             faults.compare(f"the most {name}, in help and man page", (None, None, told_in_page), ("", "", told))
+
+
+def completions(faults):
+    """The completions have the options of the help, and no other; bash shows no help."""
+    help_said = subprocess.run([faults.program, "--help"], stdout=subprocess.PIPE, text=True).stdout
+    told = options_of(HELP_OPTION, help_said)
+    names = ("b3sum.bash", "_b3sum", "b3sum.fish")
+    in_bash, in_zsh, in_fish = ((ROOT / "completions" / name).read_text() for name in names)
+    words = re.search(r"options=\((.*?)\)", in_bash, re.DOTALL)[1].split()
+    with_value = re.search(r"^ +(-.*)\) compopt", in_bash, re.MULTILINE)[1].split(" | ")
+    for name, found, expected in (("bash", words, forms(told)),
+                                  ("bash, with a value", with_value, forms(it for it in told if it[2])),
+                                  ("zsh", options_of(ZSH_OPTION, in_zsh), told),
+                                  ("fish", options_of(FISH_OPTION, in_fish), told)):
+        differing = [it for it in expected + found if it not in expected or it not in found]
+        faults.compare(f"options of the help, and those completed in {name}", (None, None, differing), ("", "", []))
+
+
+def options_of(pattern, text):
+    """The options in a text, each with whether it takes a value."""
+    return [(short, name, bool(value), help_text) for short, name, value, help_text in pattern.findall(text)]
+
+
+def forms(options):
+    """The short and the long form of each."""
+    return [form for short, name, *_ in options for form in (f"-{short}", f"--{name}") if form != "-"]
 
 
 def odd_names(faults):
