@@ -1,5 +1,6 @@
 # make              proves the program, and builds ./b3sum for this processor
-# make install      installs it and its manual page below PREFIX, which is /usr/local; make uninstall removes them
+# make install      installs it, its manual page and its completions for bash, zsh and fish below PREFIX, which is
+#                   /usr/local; make uninstall removes them
 # make lib          proves the hasher, and builds it as a C library, libb3.a and libb3.so, for this processor;
 #                   with CPU=x86-64-v2 for any x86-64 processor since 2009
 # make install-lib  installs the library, its header and b3.pc below PREFIX
@@ -25,6 +26,7 @@
 
 PREFIX = /usr/local
 DESTDIR =
+SHARE = $(DESTDIR)$(PREFIX)/share
 INSTALL = install
 
 # The level of x86-64 to build for: the program may use its instructions and those of all levels below.
@@ -52,13 +54,19 @@ b3sum: $(SOURCES)
 	tools/prove b3sum $(FLAGS)
 
 install: b3sum
-	$(INSTALL) -d $(DESTDIR)$(PREFIX)/bin $(DESTDIR)$(PREFIX)/share/man/man1
+	$(INSTALL) -d $(DESTDIR)$(PREFIX)/bin $(SHARE)/man/man1
 	$(INSTALL) -m 755 b3sum $(DESTDIR)$(PREFIX)/bin/b3sum
-	$(INSTALL) -m 644 b3sum.1 $(DESTDIR)$(PREFIX)/share/man/man1/b3sum.1
+	$(INSTALL) -m 644 b3sum.1 $(SHARE)/man/man1/b3sum.1
+	$(INSTALL) -d $(SHARE)/bash-completion/completions $(SHARE)/zsh/site-functions $(SHARE)/fish/vendor_completions.d
+	$(INSTALL) -m 644 completions/b3sum.bash $(SHARE)/bash-completion/completions/b3sum
+	$(INSTALL) -m 644 completions/_b3sum $(SHARE)/zsh/site-functions/_b3sum
+	$(INSTALL) -m 644 completions/b3sum.fish $(SHARE)/fish/vendor_completions.d/b3sum.fish
 
 # Removes the library too. Its header has a folder of its own, since another implementation's has the same name.
 uninstall:
-	rm -f $(DESTDIR)$(PREFIX)/bin/b3sum $(DESTDIR)$(PREFIX)/share/man/man1/b3sum.1
+	rm -f $(DESTDIR)$(PREFIX)/bin/b3sum $(SHARE)/man/man1/b3sum.1
+	rm -f $(SHARE)/bash-completion/completions/b3sum $(SHARE)/zsh/site-functions/_b3sum
+	rm -f $(SHARE)/fish/vendor_completions.d/b3sum.fish
 	rm -f $(addprefix $(DESTDIR)$(PREFIX)/lib/,libb3.a libb3.so libb3.so.0 pkgconfig/b3.pc)
 	rm -f $(DESTDIR)$(PREFIX)/include/b3/blake3.h
 	[ ! -d $(DESTDIR)$(PREFIX)/include/b3 ] || rmdir --ignore-fail-on-non-empty $(DESTDIR)$(PREFIX)/include/b3
