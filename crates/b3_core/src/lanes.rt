@@ -70,9 +70,8 @@ fn permuted8(m: &[u32x8; 16]) -> [u32x8; 16]
     ]
 }
 
-// Seven rounds, written out: a loop would move the message through memory for each permutation. Inlined, they keep
-// the state in registers from the start of a compression to its output words: a call would copy sixteen vectors in
-// and out.
+// Seven rounds, written out: a loop would move the message through memory for each permutation. Inlined, they keep the
+// state in registers from the start of a compression to its output words: a call would copy sixteen vectors in and out.
 #[inline(always)]
 fn rounds8(v: [u32x8; 16], m: &[u32x8; 16]) -> [u32x8; 16]
     requires wide { AreVectors 16 v }
@@ -97,9 +96,8 @@ fn rounds8(v: [u32x8; 16], m: &[u32x8; 16]) -> [u32x8; 16]
     v
 }
 
-// The state after seven rounds of eight compressions, of the chaining values `h`, the messages `m`, the low
-// and high words of the counters, one block length `b` and one set of flags `d`, for what needs all sixteen
-// output words.
+// The state after seven rounds of eight compressions, of the chaining values `h`, the messages `m`, the low and high
+// words of the counters, one block length `b` and one set of flags `d`.
 #[inline(always)]
 pub(crate) fn final_states8(
     h: &[u32x8; 8],

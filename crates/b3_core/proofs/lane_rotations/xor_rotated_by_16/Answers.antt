@@ -1,0 +1,7 @@
+use Rattle.std.proofs.Common.{refl, inr}
+use Rattle.b3_core.proofs.Rotations.{xor_rotated-bytes}
+use Rattle.b3_core.proofs.lane_rotations.xor_rotated_by_16.Goals as goal
+
+pub returns : goal.returns
+returns c =
+    xor_rotated-bytes c.args.x c.args.y 2 16 refl (inr refl) c.requires.x c.requires.y c.fits-x.1 c.fits-y.1
