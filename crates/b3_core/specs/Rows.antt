@@ -3,7 +3,7 @@
 use Rattle.std.specs.Prelude.{◌≡◌, ℕ, List, [], ◌∷◌, ◌++◌, length, map, slice_index}
 use Rattle.b3_core.specs.Compression.{half_g}
 
--- the sixteen words of the state: the rows, one after the other
+-- the sixteen words of four rows, one after the other
 abbrev pub row_words : List ℕ × List ℕ × List ℕ × List ℕ → List ℕ
 row_words rows = rows.0 ++ rows.1 ++ rows.2 ++ rows.3
 
