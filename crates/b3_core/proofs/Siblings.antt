@@ -123,10 +123,6 @@ pub record Kids (n a l b r : ℕ) : Type 0 where
   pub full : (r ≡ l) ⊎ (b + r ≡ n)
   pub ends : b + r ≤ n
 
-full_kid : (n a l b r p : ℕ) → b ≡ a + l → p ≡ 2 * l → (l + r ≡ p) ⊎ (a + (l + r) ≡ n) → (r ≡ l) ⊎ (b + r ≡ n)
-full_kid n a l b r p next twice (inl power) = inl (omega arith)
-full_kid n a l b r p next twice (inr end) = inr (omega arith)
-
 pub Kids-from_AreChildren : (n a l b r : ℕ) → 1 ≤ n → AreChildren n a l b r → Kids n a l b r
 Kids-from_AreChildren n a l b r some (up, ((j, is), low, high), next) =
     let at = InGrid-from_IsSubtree n some up in
@@ -146,7 +142,7 @@ Kids-from_AreChildren n a l b r some (up, ((j, is), low, high), next) =
       next = next;
       some = omega arith;
       short = omega arith;
-      full = full_kid n a l b r (2 ^ at.k) next power at.full;
+      full = elim at.full [ inl whole ↦ inl (omega arith) | inr end ↦ inr (omega arith) ];
       ends = omega arith;
     }
 

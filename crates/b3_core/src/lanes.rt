@@ -115,23 +115,14 @@ pub(crate) fn final_states8(
     ensures lanes { (j t : ℕ) → j < 8 → slice_index low j ≡ t % 2 ^ 32 → slice_index high j ≡ t / 2 ^ 32
         → lane j result ≡ rounds 7 (initial_state (lane j h.now) t b d) (lane j m.now) }
 {
+    let c0 = u32x8::splat(INITIAL_VALUE[0]);
+    let c1 = u32x8::splat(INITIAL_VALUE[1]);
+    let c2 = u32x8::splat(INITIAL_VALUE[2]);
+    let c3 = u32x8::splat(INITIAL_VALUE[3]);
+    let length = u32x8::splat(b);
+    let flags = u32x8::splat(d);
     let initial_state = [
-        h[0],
-        h[1],
-        h[2],
-        h[3],
-        h[4],
-        h[5],
-        h[6],
-        h[7],
-        u32x8::splat(INITIAL_VALUE[0]),
-        u32x8::splat(INITIAL_VALUE[1]),
-        u32x8::splat(INITIAL_VALUE[2]),
-        u32x8::splat(INITIAL_VALUE[3]),
-        low,
-        high,
-        u32x8::splat(b),
-        u32x8::splat(d),
+        h[0], h[1], h[2], h[3], h[4], h[5], h[6], h[7], c0, c1, c2, c3, low, high, length, flags,
     ];
     rounds8(initial_state, m)
 }

@@ -7,4 +7,5 @@ mod inputs;
 mod orders;
 mod outputs;
 mod real_disk;
+mod steps;
 mod troubles;

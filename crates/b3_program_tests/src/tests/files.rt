@@ -1,14 +1,15 @@
 // The files of a shelf of real files.
 
-use super::fakes::{FakeFiles, Reads, System};
-use super::inputs::NOT_SHOWN;
-use b3_check::{NoContent, Shelf};
+use super::fakes::{Reads, System};
+use super::steps::Step::{Begin, HashWhole, LenHint, Read, ReadAt, Rest};
+use super::steps::{assert_files, assert_real, digest_of};
+use b3_check::{CannotRead, NoContent};
 use b3_core::Mode;
 use b3_hash::Hasher;
-use b3_program::{FileShelf, MemoryFile, NamedFile, RealDisk, RealInput};
+use b3_program::NamedFile;
 use std::alloc::{AllocError, Global};
 use std::fs::File;
-use std::io::Read;
+use std::io::Read as _;
 use std::process::Abort;
 use std::rt::Files;
 use std::test::Fail;
@@ -16,21 +17,9 @@ use std::test::Fail;
 // The program that runs: a plain file of some length.
 pub const OWN_PROGRAM: &str = "/proc/self/exe";
 
-// The digest of the file of this name, if it is hashed beside others.
-pub fn digest_of_whole<S: Shelf>(shelf: &S, name: &str, max_len: u64) -> Option<[u8; 32]> {
-    let mut buffer = [0; 1_000];
-    let mut hasher = Hasher::new(Mode::hash());
-    if !shelf.hash_whole(name, max_len, &mut buffer, &mut hasher) {
-        return None;
-    }
-    Some(digest_of(&hasher))
-}
-
-fn digest_of(hasher: &Hasher) -> [u8; 32] {
-    let mut digest = [0; 32];
-    let _filled = hasher.finish().fill(&mut digest);
-    digest
-}
+// The digest of the bytes "four", by the installed b3sum.
+pub const FOUR: &[u8; 32] = b"\x37\x39\x20\x08\xa9\x49\xc4\x87\x9f\x19\x0a\x4c\xe5\x4e\x35\x47\
+      \x82\xbc\x88\x56\x4a\x95\x34\xa8\x82\xb3\xd4\x24\x48\xf9\x61\x68";
 
 // The file that is opened, or looked at, is the one that is named, to the character.
 fn assert_opened<'x>(rt: &'x impl Abort, name: &'x str) {
@@ -38,15 +27,15 @@ fn assert_opened<'x>(rt: &'x impl Abort, name: &'x str) {
         name,
         content: b"four",
     }];
-    let system = System::new(&named, Reads::plain());
-    let files = FakeFiles::new(rt, &system);
-    let mut shelf = FileShelf::new(RealDisk::new(&files), MemoryFile::new(b""));
-    assert_eq!(rt; shelf.begin(name), Ok(()), "{name}");
-    assert_eq!(rt; shelf.begin("another"), Err(NoContent::Missing), "{name}");
-    assert!(rt; digest_of_whole(&shelf, name, u64::MAX).is_some(), "{name}");
-    assert!(rt;
-        digest_of_whole(&shelf, "another", u64::MAX).is_none(),
-        "{name}"
+    assert_files(
+        rt,
+        &System::new(&named, Reads::plain()),
+        &[
+            Begin(name, Ok(())),
+            Begin("another", Err(NoContent::Missing)),
+            HashWhole(name, u64::MAX, Some(FOUR)),
+            HashWhole("another", u64::MAX, None),
+        ],
     );
 }
 
@@ -83,39 +72,40 @@ fn the_named_file_is_opened(rt: HostRuntime) -> Result<(), AllocError> {
 
 #[test]
 fn a_folder_is_no_file(rt: HostRuntime) {
-    let mut shelf = FileShelf::new(RealDisk::new(&rt), MemoryFile::new(b""));
-    let mut buffer = [0; 8];
-    let is_begun = shelf.begin("/").is_ok();
-    assert_eq!(rt; shelf.read(&mut buffer).is_err(), is_begun);
+    assert_real(&rt, &[Begin("/", Ok(())), Read(8, Err(CannotRead))]);
 }
 
 // What should be a folder on its way is a file; and a name that is too long is no missing one.
 #[test]
 fn a_name_below_a_file_is_missing(rt: HostRuntime) -> Result<(), AllocError> {
-    let mut shelf = FileShelf::new(RealDisk::new(&rt), MemoryFile::new(b""));
-    assert_eq!(rt; shelf.begin("/proc/self/exe/"), Err(NoContent::Missing));
-    assert_eq!(rt; shelf.begin("/proc/self/exe/x"), Err(NoContent::Missing));
     let mut long = String::new(rt.alloc());
-    for _ in 0..5_000 {
+    for _ in 0..5_000usize {
         long.push_str("x")?;
     }
-    assert_eq!(rt; shelf.begin(long.as_str()), Err(NoContent::CannotRead));
+    assert_real(
+        &rt,
+        &[
+            Begin("/proc/self/exe/", Err(NoContent::Missing)),
+            Begin("/proc/self/exe/x", Err(NoContent::Missing)),
+            Begin(long.as_str(), Err(NoContent::CannotRead)),
+        ],
+    );
     Ok(())
 }
 
 #[test]
 fn a_plain_file_alone_is_looked_at(rt: HostRuntime) {
-    let shelf = FileShelf::new(RealDisk::new(&rt), MemoryFile::new(b"four"));
-    for name in [
-        "-",
-        "/",
-        "/dev/null",
-        "/proc/self/stat",
-        "a file that is not there",
-    ] {
-        assert_eq!(rt; digest_of_whole(&shelf, name, u64::MAX), None, "{name}");
-    }
-    assert_eq!(rt; digest_of_whole(&shelf, OWN_PROGRAM, 1_024), None);
+    assert_real(
+        &rt,
+        &[
+            HashWhole("-", u64::MAX, None),
+            HashWhole("/", u64::MAX, None),
+            HashWhole("/dev/null", u64::MAX, None),
+            HashWhole("/proc/self/stat", u64::MAX, None),
+            HashWhole("a file that is not there", u64::MAX, None),
+            HashWhole(OWN_PROGRAM, 1_024, None),
+        ],
+    );
 }
 
 // The bytes of the program that runs, read in order.
@@ -139,35 +129,15 @@ fn a_file_is_looked_at_piece_by_piece(rt: HostRuntime) -> Result<(), Fail> {
     let mut hasher = Hasher::new(Mode::hash());
     hasher.update(content.as_slice())?;
     let len = hasher.len();
-    let shelf = FileShelf::new(RealDisk::new(&rt), MemoryFile::new(b""));
     assert!(rt; len > 100_000);
-    assert_eq!(rt;
-        digest_of_whole(&shelf, OWN_PROGRAM, len),
-        Some(digest_of(&hasher))
+    assert_real(
+        &rt,
+        &[
+            HashWhole(OWN_PROGRAM, len, Some(&digest_of(&hasher))),
+            HashWhole(OWN_PROGRAM, len - 1, None),
+        ],
     );
-    assert_eq!(rt; digest_of_whole(&shelf, OWN_PROGRAM, len - 1), None);
     Ok(())
-}
-
-// What the shelf gives at an offset is what stands there of the rest of the file.
-pub fn assert_at<S: Shelf>(rt: &impl Abort, shelf: &S, rest: &[u8], offset: usize) {
-    let mut buffer = [0; 1_000];
-    let wanted = &rest[offset.min(rest.len())..];
-    let wanted = &wanted[..wanted.len().min(1_000)];
-    let given = shelf.read_at(offset as u64, &mut buffer);
-    assert_eq!(rt; given, Some(wanted.len()), "at {offset}");
-    assert!(rt; buffer.starts_with(wanted), "at {offset}");
-}
-
-// The same at many offsets, also around the end of the file.
-fn assert_offsets<S: Shelf>(rt: &impl Abort, shelf: &S, rest: &[u8]) {
-    assert_eq!(rt; shelf.len_hint(), rest.len() as u64);
-    for k in 0..500usize {
-        assert_at(rt, shelf, rest, k);
-        assert_at(rt, shelf, rest, (rest.len() / 500).saturating_mul(k));
-        assert_at(rt, shelf, rest, rest.len().saturating_sub(k));
-        assert_at(rt, shelf, rest, rest.len().saturating_add(k));
-    }
 }
 
 // A file gives at its offsets what it gives in order, and stays where it is.
@@ -175,35 +145,33 @@ fn assert_offsets<S: Shelf>(rt: &impl Abort, shelf: &S, rest: &[u8]) {
 fn a_file_is_read_at_its_offsets(rt: HostRuntime) -> Result<(), Fail> {
     let content = own_program(&rt)?;
     let content = content.as_slice();
-    let mut shelf = FileShelf::new(RealDisk::new(&rt), MemoryFile::new(b""));
-    let mut buffer = [0; 4_096];
-    assert_eq!(rt; shelf.begin(OWN_PROGRAM), Ok(()));
-    assert_offsets(&rt, &shelf, content);
-    let count = shelf.read(&mut buffer).unwrap_or(0).min(content.len());
-    assert!(rt; count > 0);
-    let rest = &content[count..];
-    assert_offsets(&rt, &shelf, rest);
-    let count = shelf.read(&mut buffer).unwrap_or(0).min(4_096);
-    assert!(rt; count > 0 && rest.starts_with(&buffer[..count]));
+    assert!(rt; content.len() > 16);
+    assert_real(
+        &rt,
+        &[
+            Begin(OWN_PROGRAM, Ok(())),
+            Rest(content),
+            Read(8, Ok(&content[..8])),
+            Rest(&content[8..]),
+            Read(8, Ok(&content[8..16])),
+        ],
+    );
     Ok(())
 }
 
 #[test]
 fn a_plain_file_alone_tells_its_length(rt: HostRuntime) {
-    let mut shelf = FileShelf::new(
-        RealDisk::new(&rt),
-        RealInput::new(&rt, b"four".as_slice(), NOT_SHOWN),
+    assert_real(
+        &rt,
+        &[
+            LenHint(0),
+            ReadAt(0, None),
+            Begin("/dev/null", Ok(())),
+            LenHint(0),
+            Begin("/proc/self/stat", Ok(())),
+            LenHint(0),
+        ],
     );
-    let mut buffer = [0; 8];
-    assert_eq!(rt; shelf.len_hint(), 0);
-    assert_eq!(rt; shelf.read_at(0, &mut buffer), None);
-    assert_eq!(rt; shelf.begin("-"), Ok(()));
-    assert_eq!(rt; shelf.len_hint(), 0);
-    assert_eq!(rt; shelf.read_at(0, &mut buffer), None);
-    assert_eq!(rt; shelf.begin("/dev/null"), Ok(()));
-    assert_eq!(rt; shelf.len_hint(), 0);
-    assert_eq!(rt; shelf.begin("/proc/self/stat"), Ok(()));
-    assert_eq!(rt; shelf.len_hint(), 0);
 }
 
 // The digest of 1,025 bytes, 0 to 250 over and over, by the installed b3sum.
@@ -219,25 +187,32 @@ pub fn counted(alloc: Global, count: u64) -> Result<Vec<u8>, AllocError> {
     Ok(content)
 }
 
+// What is read of 1,025 bytes, of which each read gives one.
+fn assert_bytewise<'x>(rt: &'x impl Abort, content: &'x [u8]) {
+    let named = [NamedFile { name: "a", content }];
+    assert!(rt; content.len() == 1_025);
+    assert_files(
+        rt,
+        &System::new(&named, Reads::bytewise(1)),
+        &[
+            HashWhole("a", 1_025, Some(DIGEST)),
+            HashWhole("a", 1_024, None),
+            Begin("a", Ok(())),
+            Read(8, Ok(&content[..1])),
+            LenHint(1_024),
+            ReadAt(0, Some(&content[1..])),
+            ReadAt(23, Some(&content[24..])),
+            ReadAt(24, Some(&content[25..])),
+            ReadAt(1_020, Some(&content[1_021..])),
+            ReadAt(1_024, Some(b"")),
+            ReadAt(1_025, Some(b"")),
+        ],
+    );
+}
+
 #[test]
 fn a_read_at_an_offset_is_made_again_until_the_buffer_is_full(rt: HostRuntime) -> Result<(), Fail> {
     let content = counted(rt.alloc(), 1_025)?;
-    let named = [NamedFile {
-        name: "a",
-        content: content.as_slice(),
-    }];
-    let system = System::new(&named, Reads::bytewise(1));
-    let files = FakeFiles::new(&rt, &system);
-    let mut shelf = FileShelf::new(RealDisk::new(&files), MemoryFile::new(b""));
-    let mut buffer = [0; 8];
-    assert_eq!(rt; digest_of_whole(&shelf, "a", 1_025), Some(*DIGEST));
-    assert_eq!(rt; digest_of_whole(&shelf, "a", 1_024), None);
-    assert_eq!(rt; shelf.begin("a"), Ok(()));
-    assert_eq!(rt; shelf.read(&mut buffer), Ok(1));
-    assert_eq!(rt; shelf.len_hint(), 1_024);
-    let rest = &content[content.len().min(1)..];
-    for offset in [0, 1, 23, 24, 25, 1_000, 1_020, 1_024, 1_025] {
-        assert_at(&rt, &shelf, rest, offset);
-    }
+    assert_bytewise(&rt, content.as_slice());
     Ok(())
 }

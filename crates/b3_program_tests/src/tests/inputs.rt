@@ -1,27 +1,27 @@
 // The input of a shelf of real files.
 
-use super::fakes::{FakeFiles, Reads, SharedInput, System};
-use super::files::assert_at;
-use b3_check::{NoContent, Shelf};
-use b3_program::{FileShelf, INPUT_PATHS, InputPaths, MemoryFile, NamedFile, RealDisk, RealInput};
+use super::fakes::{Reads, SharedInput, System};
+use super::steps::Step::{Begin, LenHint, Read, ReadAt, Rest};
+use super::steps::{Step, assert_input, assert_real};
+use b3_check::NoContent;
+use b3_program::{INPUT_PATHS, InputPaths, NamedFile};
 use std::process::Abort;
 use std::sync::atomic::{AtomicU64, Ordering};
 
 #[test]
 fn the_input_is_begun_once_and_gives_its_bytes(rt: HostRuntime) {
-    let mut shelf = FileShelf::new(RealDisk::new(&rt), MemoryFile::new(b"four"));
-    let mut buffer = [0; 8];
-    assert_eq!(rt; shelf.read(&mut buffer), Ok(0));
-    assert_eq!(rt;
-        shelf.begin("a file that is not there"),
-        Err(NoContent::Missing)
+    assert_real(
+        &rt,
+        &[
+            Read(8, Ok(b"")),
+            Begin("a file that is not there", Err(NoContent::Missing)),
+            Begin("-", Ok(())),
+            Read(8, Ok(b"four")),
+            Read(8, Ok(b"")),
+            Begin("-", Err(NoContent::CannotRead)),
+            Read(8, Ok(b"")),
+        ],
     );
-    assert_eq!(rt; shelf.begin("-"), Ok(()));
-    assert_eq!(rt; shelf.read(&mut buffer), Ok(4));
-    assert_eq!(rt; buffer[..4], b"four"[..]);
-    assert_eq!(rt; shelf.read(&mut buffer), Ok(0));
-    assert_eq!(rt; shelf.begin("-"), Err(NoContent::CannotRead));
-    assert_eq!(rt; shelf.read(&mut buffer), Ok(0));
 }
 
 pub const NOT_SHOWN: InputPaths<'static> = InputPaths {
@@ -53,35 +53,45 @@ pub const INPUT_AT_3: [NamedFile<'static>; 2] = [
     },
 ];
 
-// An input that is a plain file is read at offsets from its position on, which is at the end afterwards.
-#[test]
-fn an_input_that_is_a_plain_file_is_read_at_offsets(rt: HostRuntime) {
-    let system = System::new(&INPUT_AT_3, Reads::bytewise(1));
-    let files = FakeFiles::new(&rt, &system);
+// What is asked of an input that stands there, and where it stands afterwards.
+fn assert_input_at_3<'x>(rt: &'x impl Abort, steps: &'x [Step<'x>], end: u64) {
     let offset = AtomicU64::new(3);
     let input = SharedInput {
         content: b"0123456789",
         offset: &offset,
         reads: &Reads::plain(),
     };
-    let mut shelf = FileShelf::new(RealDisk::new(&files), RealInput::new(&files, input, SHOWN));
-    let mut buffer = [0; 2];
-    assert_eq!(rt; shelf.begin("-"), Ok(()));
-    assert_eq!(rt; shelf.len_hint(), 7);
-    assert_eq!(rt; shelf.read(&mut buffer), Ok(2));
-    assert_eq!(rt; buffer, *b"34");
-    assert_eq!(rt; shelf.len_hint(), 5);
-    assert_eq!(rt; offset.load(Ordering::SeqCst), 5);
-    assert_at(&rt, &shelf, b"56789", 2);
-    assert_eq!(rt; offset.load(Ordering::SeqCst), 10);
-    for offset in 0..7 {
-        assert_at(&rt, &shelf, b"56789", offset);
-    }
+    let system = System::new(&INPUT_AT_3, Reads::bytewise(1));
+    assert_input(rt, &system, input, SHOWN, steps);
+    assert_eq!(rt; offset.load(Ordering::SeqCst), end);
+}
+
+// An input that is a plain file is read at offsets from its position on, and is at its end afterwards.
+#[test]
+fn an_input_that_is_a_plain_file_is_read_at_offsets(rt: HostRuntime) {
+    let begun = [
+        Begin("-", Ok(())),
+        LenHint(7),
+        Read(2, Ok(b"34")),
+        LenHint(5),
+    ];
+    assert_input_at_3(&rt, &begun, 5);
+    let at_offsets = [
+        Begin("-", Ok(())),
+        Read(2, Ok(b"34")),
+        ReadAt(2, Some(b"789")),
+    ];
+    assert_input_at_3(&rt, &at_offsets, 10);
     // What was read at offsets is read in order still.
-    assert_eq!(rt; shelf.read(&mut buffer), Ok(1));
-    assert_eq!(rt; buffer[0], b'5');
-    assert_at(&rt, &shelf, b"6789", 0);
-    assert_eq!(rt; shelf.begin("-"), Err(NoContent::CannotRead));
+    let in_order = [
+        Begin("-", Ok(())),
+        Read(2, Ok(b"34")),
+        Rest(b"56789"),
+        Read(1, Ok(b"5")),
+        Rest(b"6789"),
+        Begin("-", Err(NoContent::CannotRead)),
+    ];
+    assert_input_at_3(&rt, &in_order, 10);
 }
 
 // What is shown there is not the offset of a plain file: the input is read in order alone.
@@ -99,18 +109,19 @@ fn assert_in_order<'x>(
             content: other,
         },
     ];
+    let input = SharedInput {
+        content: b"five!",
+        offset: &AtomicU64::new(0),
+        reads: &Reads::plain(),
+    };
     let system = System::new(&shown, Reads::plain());
-    let files = FakeFiles::new(rt, &system);
-    let mut shelf = FileShelf::new(
-        RealDisk::new(&files),
-        RealInput::new(&files, b"five!".as_slice(), SHOWN),
-    );
-    let mut buffer = [0; 8];
-    assert_eq!(rt; shelf.begin("-"), Ok(()));
-    assert_eq!(rt; shelf.len_hint(), 0);
-    assert_eq!(rt; shelf.read_at(0, &mut buffer), None);
-    assert_eq!(rt; shelf.read(&mut buffer), Ok(5));
-    assert_eq!(rt; buffer[..5], b"five!"[..]);
+    let steps = [
+        Begin("-", Ok(())),
+        LenHint(0),
+        ReadAt(0, None),
+        Read(8, Ok(b"five!")),
+    ];
+    assert_input(rt, &system, input, SHOWN, &steps);
 }
 
 #[test]

@@ -1,13 +1,18 @@
 // The order of what is said on both outputs: what is said of an item goes out, on both, before what is said of the
 // next.
 
+ghost use Rattle.std.specs.Prelude.{◌^◌, ◌<◌};
+
 use b3_board::OpenGate;
-use b3_check::{CheckOptions, Form, KeyChoice, SumOptions, run_check, run_sum};
+use b3_check::{CheckOptions, Form, KeyChoice, Shelf, Sink, SumOptions, Tally, run_check, run_sum};
 use b3_program::{FileShelf, MemoryDisk, MemoryFile, NamedFile, OutputSink};
 use std::alloc::{AllocError, Global};
 use std::cell::RefCell;
 use std::io::{self, ErrorKind, Write};
+use std::process::Abort;
+use std::sync::Wait;
 use std::test::Fail;
+use std::thread::Threads;
 
 // How the log says which output is written to.
 const OUT: &str = "out> ";
@@ -136,10 +141,18 @@ const SAID_OF_LINES: [(&str, &str); 6] = [
     ("a: OK\n", ""),
 ];
 
-// The lines of names that are hashed beside one another wait for those after them, and a complaint comes in its turn.
-#[test]
-fn lines_and_complaints_of_sums(rt: HostRuntime) -> Result<(), Fail> {
-    let alloc = rt.alloc();
+// Sums names by two workers.
+fn sum<R: Abort + Threads + Wait + Sync, S: Shelf + Send + Sync, O: Sink, E: Sink>(
+    rt: &R,
+    alloc: Global,
+    shelf: &mut S,
+    out: &mut O,
+    err: &mut E,
+) -> Result<Tally, Fail>
+    requires shelf { S.failures shelf.old < 2 ^ 63 }
+    requires out { O.failures out.old < 2 ^ 63 }
+    requires err { E.failures err.old < 2 ^ 63 }
+{
     let names = strings(alloc, &NAMES)?;
     assert!(rt; names.len() <= NAMES.len());
     let asked = SumOptions {
@@ -151,27 +164,22 @@ fn lines_and_complaints_of_sums(rt: HostRuntime) -> Result<(), Fail> {
         turns: 1_000,
         largest: 1_000,
     };
-    for is_gathering in [false, true] {
-        let log = RefCell::new(Log::new(alloc));
-        let mut out = OutputSink::new(Output::new(OUT, &log)).gathering(is_gathering);
-        let mut err = OutputSink::new(Output::new(ERR, &log));
-        let mut shelf = FileShelf::new(MemoryDisk::new(&FILES), MemoryFile::new(b"\0"));
-        let answer = run_sum(
-            &rt, alloc, &mut shelf, &names, &mut out, &mut err, &asked, &OpenGate,
-        );
-        assert!(rt; answer.is_ok_and(|tally| tally.ok == 5 && tally.failed == 4));
-        let mut due = Log::new(alloc);
-        due.add_items(&SAID_OF_NAMES)?;
-        let seen = log.into_inner();
-        assert_eq!(rt; seen.text.as_str(), due.text.as_str());
-    }
-    Ok(())
+    let answer = run_sum(rt, alloc, shelf, &names, out, err, &asked, &OpenGate);
+    Ok(answer?)
 }
 
-// Verdicts wait for those after them, and a complaint of a line or of a list comes in its turn.
-#[test]
-fn verdicts_and_complaints_of_checks(rt: HostRuntime) -> Result<(), Fail> {
-    let alloc = rt.alloc();
+// Checks lists by two workers.
+fn check<R: Abort + Threads + Wait + Sync, S: Shelf + Send + Sync, O: Sink, E: Sink>(
+    rt: &R,
+    alloc: Global,
+    shelf: &mut S,
+    out: &mut O,
+    err: &mut E,
+) -> Result<Tally, Fail>
+    requires shelf { S.failures shelf.old < 2 ^ 63 }
+    requires out { O.failures out.old < 2 ^ 63 }
+    requires err { E.failures err.old < 2 ^ 63 }
+{
     let lists = strings(alloc, &LISTS)?;
     assert!(rt; lists.len() <= LISTS.len());
     let asked = CheckOptions {
@@ -184,22 +192,59 @@ fn verdicts_and_complaints_of_checks(rt: HostRuntime) -> Result<(), Fail> {
         turns: 1_000,
         largest: 1_000,
     };
-    for is_gathering in [false, true] {
-        let log = RefCell::new(Log::new(alloc));
-        let mut out = OutputSink::new(Output::new(OUT, &log)).gathering(is_gathering);
-        let mut err = OutputSink::new(Output::new(ERR, &log));
-        let mut shelf = FileShelf::new(MemoryDisk::new(&FILES), MemoryFile::new(b""));
-        let answer = run_check(
-            &rt, alloc, &mut shelf, &lists, &mut out, &mut err, &asked, &OpenGate,
-        );
-        assert!(rt; answer.is_ok());
-        let mut due = Log::new(alloc);
-        due.add_items(&SAID_OF_LINES)?;
-        due.add(ERR, "b3sum: gone: cannot read\n")?;
-        due.add_items(&SAID_OF_LINES)?;
-        due.add(ERR, "b3sum: WARNING: 6 computed checksums did NOT match\n")?;
-        let seen = log.into_inner();
-        assert_eq!(rt; seen.text.as_str(), due.text.as_str());
-    }
+    let answer = run_check(rt, alloc, shelf, &lists, out, err, &asked, &OpenGate);
+    Ok(answer?)
+}
+
+// The lines of names that are hashed beside one another wait for those after them, and a complaint comes in its turn.
+fn assert_sums<R: Abort + Threads + Wait + Sync>(
+    rt: &R,
+    alloc: Global,
+    is_gathering: bool,
+) -> Result<(), Fail> {
+    let log = RefCell::new(Log::new(alloc));
+    let mut out = OutputSink::new(Output::new(OUT, &log)).gathering(is_gathering);
+    let mut err = OutputSink::new(Output::new(ERR, &log));
+    let mut shelf = FileShelf::new(MemoryDisk::new(&FILES), MemoryFile::new(b"\0"));
+    let tally = sum(rt, alloc, &mut shelf, &mut out, &mut err)?;
+    assert!(rt; tally.ok == 5 && tally.failed == 4);
+    let mut due = Log::new(alloc);
+    due.add_items(&SAID_OF_NAMES)?;
+    let seen = log.into_inner();
+    assert_eq!(rt; seen.text.as_str(), due.text.as_str());
     Ok(())
+}
+
+#[test]
+fn lines_and_complaints_of_sums(rt: HostRuntime) -> Result<(), Fail> {
+    assert_sums(&rt, rt.alloc(), false)?;
+    assert_sums(&rt, rt.alloc(), true)
+}
+
+// Verdicts wait for those after them, and a complaint of a line or of a list comes in its turn.
+fn assert_checks<R: Abort + Threads + Wait + Sync>(
+    rt: &R,
+    alloc: Global,
+    is_gathering: bool,
+) -> Result<(), Fail> {
+    let log = RefCell::new(Log::new(alloc));
+    let mut out = OutputSink::new(Output::new(OUT, &log)).gathering(is_gathering);
+    let mut err = OutputSink::new(Output::new(ERR, &log));
+    let mut shelf = FileShelf::new(MemoryDisk::new(&FILES), MemoryFile::new(b""));
+    let tally = check(rt, alloc, &mut shelf, &mut out, &mut err)?;
+    assert!(rt; tally.ok == 6 && tally.lists == 1);
+    let mut due = Log::new(alloc);
+    due.add_items(&SAID_OF_LINES)?;
+    due.add(ERR, "b3sum: gone: cannot read\n")?;
+    due.add_items(&SAID_OF_LINES)?;
+    due.add(ERR, "b3sum: WARNING: 6 computed checksums did NOT match\n")?;
+    let seen = log.into_inner();
+    assert_eq!(rt; seen.text.as_str(), due.text.as_str());
+    Ok(())
+}
+
+#[test]
+fn verdicts_and_complaints_of_checks(rt: HostRuntime) -> Result<(), Fail> {
+    assert_checks(&rt, rt.alloc(), false)?;
+    assert_checks(&rt, rt.alloc(), true)
 }

@@ -1,4 +1,4 @@
-use Rattle.std.proofs.Common.{◌+◌, ◌++◌, map, get_or, bit_xor, refl}
+use Rattle.std.proofs.Common.{ℕ, ◌++◌, map, get_or, bit_xor, refl}
 use Rattle.std.specs.List.{range_with_len}
 use Rattle.std.specs.Simd.Lanes.{zip2}
 use Rattle.b3_core.specs.Compression.{output_words}
@@ -8,10 +8,9 @@ use Rattle.b3_core.proofs.compression.output_words.Goals as goal
 
 pub returns : goal.returns
 returns c =
-    let h = c.args.h.now in
+    let h : ℕ → ℕ = λ k. get_or c.args.h.now k 0 in
     same_on_rows (λ v. map (λ i. get_or (zip2 bit_xor v.0 v.2) i 0) (range_with_len 0 4)
     ++ map (λ i. get_or (zip2 bit_xor v.1 v.3) i 0) (range_with_len 0 4)
-    ++ map (λ i. bit_xor (get_or v.2 i 0) (get_or h i 0)) (range_with_len 0 4)
-    ++ map (λ i. bit_xor (get_or v.3 i 0) (get_or h (i + 4) 0)) (range_with_len 0 4))
-    (λ v. output_words (row_words v) h)
-    (λ a b c d. refl) c.args.v c.requires
+    ++ map (λ i. get_or (zip2 bit_xor v.2 (map h (range_with_len 0 4))) i 0) (range_with_len 0 4)
+    ++ map (λ i. get_or (zip2 bit_xor v.3 (map h (range_with_len 4 4))) i 0) (range_with_len 0 4))
+    (λ v. output_words (row_words v) c.args.h.now) (λ a b c d. refl) c.args.v c.requires

@@ -1,0 +1,165 @@
+// What a shelf is asked, one call after the other, and what it is to answer.
+
+ghost use Rattle.std.specs.Prelude.{◌≡◌, ◌≤◌};
+
+use super::fakes::{FakeFiles, SharedInput, System};
+use b3_check::{CannotRead, NoContent, Shelf};
+use b3_core::Mode;
+use b3_hash::Hasher;
+use b3_program::{Disk, FileShelf, Input, InputPaths, MemoryFile, RealDisk, RealInput};
+use std::os::unix::fs::FileExt;
+use std::process::Abort;
+use std::rt::Files;
+
+/// A call, and its answer.
+#[derive(Clone, Copy)]
+pub enum Step<'a> {
+    /// The file of this name is begun, or why it is not.
+    Begin(&'a str, Result<(), NoContent>),
+    /// What is read next into a buffer of so many bytes.
+    Read(usize, Result<&'a [u8], CannotRead>),
+    /// What stands from this offset on to the end, as far as the buffer takes it.
+    ReadAt(u64, Option<&'a [u8]>),
+    /// These bytes are left, at each offset.
+    Rest(&'a [u8]),
+    /// How many bytes are left, as far as that is known.
+    LenHint(u64),
+    /// The digest of a file of at most so many bytes that is hashed beside others.
+    HashWhole(&'a str, u64, Option<&'a [u8; 32]>),
+}
+
+/// The digest of what was hashed.
+pub fn digest_of(hasher: &Hasher) -> [u8; 32] {
+    let mut digest = [0; 32];
+    let _filled = hasher.finish().fill(&mut digest);
+    digest
+}
+
+/// The digest of the file of this name, if it is hashed beside others.
+pub fn digest_of_whole<S: Shelf>(shelf: &S, name: &str, max_len: u64) -> Option<[u8; 32]> {
+    let mut buffer = [0; 1_000];
+    let mut hasher = Hasher::new(Mode::hash());
+    if !shelf.hash_whole(name, max_len, &mut buffer, &mut hasher) {
+        return None;
+    }
+    Some(digest_of(&hasher))
+}
+
+// What a shelf gives at an offset is what stands from there on.
+fn assert_read_at<S: Shelf>(rt: &impl Abort, shelf: &S, offset: u64, answer: Option<&[u8]>) {
+    let mut buffer = [0; 1_000];
+    let given = shelf.read_at(offset, &mut buffer);
+    let Some(rest) = answer else {
+        assert_eq!(rt; given, None, "at {offset}");
+        return;
+    };
+    let wanted = &rest[..rest.len().min(1_000)];
+    assert_eq!(rt; given, Some(wanted.len()), "at {offset}");
+    assert!(rt; buffer.starts_with(wanted), "at {offset}");
+}
+
+fn assert_rest_at<S: Shelf>(rt: &impl Abort, shelf: &S, rest: &[u8], offset: usize) {
+    let start = offset.min(rest.len());
+    assert_read_at(rt, shelf, offset as u64, Some(&rest[start..]));
+}
+
+// The same at many offsets, also around the end.
+fn assert_rest<S: Shelf>(rt: &impl Abort, shelf: &S, rest: &[u8]) {
+    assert_eq!(rt; shelf.len_hint(), rest.len() as u64);
+    for k in 0..500usize {
+        assert_rest_at(rt, shelf, rest, k);
+        assert_rest_at(rt, shelf, rest, (rest.len() / 500).saturating_mul(k));
+        assert_rest_at(rt, shelf, rest, rest.len().saturating_sub(k));
+        assert_rest_at(rt, shelf, rest, rest.len().saturating_add(k));
+    }
+}
+
+/// A shelf, and how often it was asked for what may fail.
+#[derive(Drop)]
+pub struct Asked<S: Shelf> {
+    shelf: S,
+    calls: u64,
+    ghost counted: { S.failures shelf ≤ calls },
+}
+
+impl<S: Shelf> Asked<S> {
+    /// A shelf of which nothing was asked.
+    pub fn new(shelf: S) -> Asked<S>
+        requires { S.failures shelf ≡ 0 }
+    {
+        Asked { shelf, calls: 0 }
+    }
+
+    fn begin(&mut self, rt: &impl Abort, name: &str, answer: Result<(), NoContent>) {
+        assert!(rt; self.calls < 1_000);
+        self.calls += 1;
+        assert_eq!(rt; self.shelf.begin(name), answer, "{name}");
+    }
+
+    fn read(&mut self, rt: &impl Abort, most: usize, answer: Result<&[u8], CannotRead>) {
+        let mut buffer = [0; 8];
+        assert!(rt; 1 <= most && most <= 8 && self.calls < 1_000);
+        self.calls += 1;
+        let given = self.shelf.read(&mut buffer[..most]);
+        let Ok(bytes) = answer else {
+            assert!(rt; given.is_err());
+            return;
+        };
+        assert_eq!(rt; given, Ok(bytes.len()));
+        assert!(rt; buffer.starts_with(bytes));
+    }
+
+    /// Makes these calls.
+    pub fn assert(&mut self, rt: &impl Abort, steps: &[Step<'_>]) {
+        for step in steps {
+            match *step {
+                Step::Begin(name, answer) => self.begin(rt, name, answer),
+                Step::Read(most, answer) => self.read(rt, most, answer),
+                Step::ReadAt(offset, answer) => assert_read_at(rt, &self.shelf, offset, answer),
+                Step::Rest(rest) => assert_rest(rt, &self.shelf, rest),
+                Step::LenHint(len) => assert_eq!(rt; self.shelf.len_hint(), len),
+                Step::HashWhole(name, max_len, digest) => {
+                    let given = digest_of_whole(&self.shelf, name, max_len);
+                    assert_eq!(rt; given, digest.copied(), "{name}");
+                }
+            }
+        }
+    }
+}
+
+// Makes these calls of a shelf over this disk and this input.
+fn assert_shelf<D: Disk + Drop, I: Input + Drop>(
+    rt: &impl Abort,
+    disk: D,
+    input: I,
+    steps: &[Step<'_>],
+) {
+    Asked::new(FileShelf::new(disk, input)).assert(rt, steps);
+}
+
+/// Makes these calls of a shelf of such files.
+pub fn assert_files<'x>(rt: &'x impl Abort, system: &'x System<'x>, steps: &[Step<'_>]) {
+    let files = FakeFiles::new(rt, system);
+    assert_shelf(rt, RealDisk::new(&files), MemoryFile::new(b""), steps);
+}
+
+/// Makes these calls of a shelf of such files beside an input.
+pub fn assert_input<'x>(
+    rt: &'x impl Abort,
+    system: &'x System<'x>,
+    input: SharedInput<'x>,
+    paths: InputPaths<'x>,
+    steps: &[Step<'_>],
+) {
+    let files = FakeFiles::new(rt, system);
+    let input = RealInput::new(&files, input, paths);
+    assert_shelf(rt, RealDisk::new(&files), input, steps);
+}
+
+/// Makes these calls of a shelf of real files, beside an input of four bytes.
+pub fn assert_real<R: Abort + Files>(rt: &R, steps: &[Step<'_>])
+where
+    R::File: FileExt,
+{
+    assert_shelf(rt, RealDisk::new(rt), MemoryFile::new(b"four"), steps);
+}
