@@ -14,6 +14,7 @@ complete -c b3sum -l seek -x -d 'Write the output from its byte N on; without it
 complete -c b3sum -l raw -d 'Write the output bytes themselves, of one file'
 complete -c b3sum -l no-names -d 'Write the digests without names'
 complete -c b3sum -l tag -d 'Write each line as BLAKE3 (FILE) = DIGEST; --check reads both forms'
+complete -c b3sum -l files0-from -r -d 'Take the names from FILE, where a NUL ends each; - is standard input'
 complete -c b3sum -l num-threads -x -d 'Hash with N threads, at most 64; 4 where N is 0, and without it'
 complete -c b3sum -l no-mmap -d 'Change nothing: files are never mapped into memory'
 complete -c b3sum -s h -l help -d 'Print help'

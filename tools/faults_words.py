@@ -19,7 +19,7 @@ MAN_PAGE = ROOT / "b3sum.1"
 # An option of the help and of the completions of zsh and fish: its short form, its name, a mark of a value, its help.
 HELP_OPTION = re.compile(r"^ +(?:-(\w), )?--([\w-]+)( <\w+>)? +(.+)$", re.MULTILINE)
 ZSH_OPTION = re.compile(r"^ +'(?:\(.*?\)'\{-(\w)\+?,)?--([\w-]+)(=)?(?:\}')?(?:\[(.+)\])?", re.MULTILINE)
-FISH_OPTION = re.compile(r"^complete -c b3sum(?: -s (\w))? -l ([\w-]+)( -x)?(?: -d '(.+)')?", re.MULTILINE)
+FISH_OPTION = re.compile(r"^complete -c b3sum(?: -s (\w))? -l ([\w-]+)( -[rx])?(?: -d '(.+)')?", re.MULTILINE)
 # The options that cannot be used with --check, in the order in which they are refused, with their values.
 EXCLUDED = {"--keyed": [], "--derive-key": ["c"], "--length": ["32"], "--seek": ["0"], "--raw": [], "--no-names": [],
             "--tag": []}
@@ -66,7 +66,10 @@ def refused_words(faults):
                         (["-w", "--strict", "--status"], "--status needs --check"),
                         (["-w", "--strict", "e"], "--strict needs --check"), (["-w"], "--warn needs --check"),
                         (["--ignore-missing", "--quiet"], "--quiet needs --check"),
-                        (["--strict", "--seek", LAST_PLACE], "--seek and --length pass the end of the output")):
+                        (["--strict", "--seek", LAST_PLACE], "--seek and --length pass the end of the output"),
+                        (["--files0-from", "e", "e"], "--files0-from takes no FILE"),
+                        (["--files0-from", "e", "-w", "e"], "--warn needs --check"),
+                        (["--files0-from", "-", "--keyed"], "--keyed needs files")):
         faults.row(" ".join(given), given, err=f"b3sum: {text}\n", status=2)
     for given in (["--bogus"], ["-x"], ["--length"], ["--length", "1048577"], ["--length", "-1"], ["--length", "x"],
                   ["--length", ""], ["--seek"], ["--seek", "-1"], ["--seek", str(int(LAST_PLACE) + 1)], ["--tag=1"],
@@ -76,8 +79,8 @@ def refused_words(faults):
 
 def help_and_version(faults):
     """The texts of help and version; the limits in the help are those of the manual page."""
-    told = ("-c", *EXCLUDED, "-l", "--quiet", "--ignore-missing", "--status", "--strict", "-w, --warn", "--num-threads",
-            "--no-mmap", "--help", "--version", "FILE")
+    told = ("-c", *EXCLUDED, "-l", "--quiet", "--ignore-missing", "--status", "--strict", "-w, --warn", "--files0-from",
+            "--num-threads", "--no-mmap", "--help", "--version", "FILE")
     help_text = re.compile("".join(f"(?=.*{word})" for word in told).encode() + rb".+\n", re.DOTALL)
     for word, out in (("--help", help_text), ("-h", help_text), ("--version", VERSION), ("-V", VERSION)):
         faults.row(word, [word], out)
@@ -95,13 +98,14 @@ def help_and_version(faults):
 def completions(faults):
     """The completions have the options of the help, and no other; bash shows no help."""
     help_said = subprocess.run([faults.program, "--help"], stdout=subprocess.PIPE, text=True).stdout
-    told = options_of(HELP_OPTION, help_said)
+    told, files = options_of(HELP_OPTION, help_said), re.findall(r"--([\w-]+) <FILE>", help_said)
+    no_file = [option for option in told if option[2] and option[1] not in files]
     names = ("b3sum.bash", "_b3sum", "b3sum.fish")
     in_bash, in_zsh, in_fish = ((ROOT / "completions" / name).read_text() for name in names)
     words = re.search(r"options=\((.*?)\)", in_bash, re.DOTALL)[1].split()
     with_value = re.search(r"^ +(-.*)\) compopt", in_bash, re.MULTILINE)[1].split(" | ")
     for name, found, expected in (("bash", words, forms(told)),
-                                  ("bash, with a value", with_value, forms(it for it in told if it[2])),
+                                  ("bash, with a value that is no file", with_value, forms(no_file)),
                                   ("zsh", options_of(ZSH_OPTION, in_zsh), told),
                                   ("fish", options_of(FISH_OPTION, in_fish), told)):
         differing = [it for it in expected + found if it not in expected or it not in found]

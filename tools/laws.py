@@ -6,10 +6,16 @@ from dataclasses import dataclass
 TO_CALL = (("b3sum/src/main.rt", "main"), ("b3sum/src/call.rt", "call_with"))
 TO_SHELF = (*TO_CALL, ("b3_program/src/files.rt", "FileShelf::new"))
 TO_OUTPUT = (*TO_CALL, ("b3_program/src/outputs.rt", "OutputSink::new"))
-TO_RUN = (*TO_CALL, ("b3sum/src/call.rt", "run_call"), ("b3_program/src/run.rt", "run_words"),
-          ("b3_program/src/run.rt", "run_task"), ("b3_program/src/run.rt", "run_engine"))
+TO_TASK = (*TO_CALL, ("b3sum/src/call.rt", "run_call"), ("b3_program/src/run.rt", "run_words"),
+           ("b3_program/src/run.rt", "run_task"))
+TO_RUN = (*TO_TASK, ("b3_program/src/run.rt", "run_over_files"), ("b3_program/src/jobs.rt", "run_job"),
+          ("b3_program/src/jobs.rt", "run_engine"))
+TO_LIST = (*TO_TASK, ("b3_program/src/lists.rt", "run_in_list"), ("b3_program/src/lists.rt", "run_over"),
+           ("b3_check/src/operands.rt", "Operands::in_list"))
 TO_SUM = (*TO_RUN, ("b3_check/src/sum.rt", "run_sum"))
 TO_CHECK = (*TO_RUN, ("b3_check/src/check.rt", "run_check"))
+TO_NAME = (*TO_CHECK, ("b3_check/src/check.rt", "check_lists"), ("b3_check/src/check.rt", "Checker::check_all"),
+           ("b3_check/src/operands.rt", "Operands::next"), ("b3_lines/src/line_ranges.rt", "first_piece"))
 TO_TEXT = (*TO_SUM, ("b3_check/src/sum.rt", "sum_names"), ("b3_check/src/engine.rt", "Engine::run"),
            ("b3_check/src/engine.rt", "Engine::message_of"), ("b3_check/src/items.rt", "Request::message"),
            ("b3_check/src/message.rt", "Message::of_name"), ("b3_check/src/message.rt", "digest_text"))
@@ -99,6 +105,10 @@ LAWS = (
     Law("What a line says",
         "What a line reads as is what a check takes of it.",
         (Clauses("b3_check/src/check.rt", "run_check", ("entries",)),), (TO_CHECK,)),
+    Law("Names in a list",
+        "The names in a list are the pieces of its content that NUL ends, the last perhaps ended by none.",
+        (Clauses("b3_check/src/operands.rt", "Operands::in_list", ("operands",)),
+         Clauses("b3_lines/src/line_ranges.rt", "first_piece", ("are_pieces", "no_other"))), (TO_LIST, TO_NAME)),
 )
 
 CONTRACT = Law("The program's contract",

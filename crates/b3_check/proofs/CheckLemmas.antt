@@ -1,8 +1,7 @@
 -- Runs over lists of check lines.
-use Rattle.std.proofs.Common.{◌≡◌, ◌⊎◌, ℕ, suc, ◌+◌, ◌*◌, ◌^◌, ◌<◌, ◌≤◌, List, [], ◌∷◌, ◌++◌, length, get_or, take, drop, map, Option, None, Some, Result, Ok, Err, refl, sym, ◌∙◌, ap, subst, add-one, drop-cons, arith}
+use Rattle.std.proofs.Common.{◌≡◌, ◌⊎◌, ℕ, suc, ◌+◌, ◌*◌, ◌^◌, ◌≤◌, List, [], ◌∷◌, ◌++◌, length, map, Option, None, Some, Result, Ok, Err, refl, sym, ◌∙◌, ap, subst, add-one, append_assoc, length-append, arith}
 use Rattle.std.proofs.Math.Nat.{mul-le-mul_right, suc-mul}
-use Rattle.std.proofs.Math.Seq.{take-suc}
-use Rattle.std.proofs.lemmas.List.{map-append, take-append-drop}
+use Rattle.std.proofs.lemmas.List.{append-nil, map-append}
 use Rattle.b3_lines.specs.Lines.{line_at}
 use Rattle.b3_lines.specs.Reading.{IsReadAs, first_refusal}
 use Rattle.b3_lines.specs.declared.fault.LineFault.{LineFault}
@@ -12,17 +11,18 @@ use Rattle.b3_check.specs.declared.fault.RunFault.TheVariants.{WriteFault, Memor
 use Rattle.b3_check.specs.declared.options.CheckOptions.{CheckOptions}
 use Rattle.b3_check.specs.declared.options.Limits.{Limits}
 use Rattle.b3_check.specs.declared.tally.Tally.{Tally}
-use Rattle.b3_check.specs.Checks.{Entry, decoded, entry_of, line_script, line_scripts, list_script, lists_script, verdict_on, verdict_report}
+use Rattle.b3_check.specs.Checks.{Entry, decoded, entry_of, line_script, line_scripts, list_operand_script, lists_script, verdict_on, verdict_report}
 use Rattle.b3_check.specs.Digests.{line_range}
+use Rattle.b3_check.specs.Operands.{Operand}
 use Rattle.b3_check.specs.Reading.{Answered}
 use Rattle.b3_check.specs.Runs.{Broke, Ran, IoState, Stopped, Went}
-use Rattle.b3_check.specs.Devices.{Runs}
+use Rattle.b3_check.specs.Devices.{CanCount, Runs}
 use Rattle.b3_check.specs.Scripts.{Answer, Kind, Report, Script, followed_by, in_turn, then_counted}
 use Rattle.b3_check.specs.Scripts.Script.{Ask, Done, Say}
 use Rattle.b3_check.specs.Tallies.{no_tally, tally_sum}
-use Rattle.b3_check.specs.Tasks.{line_task, line_tasks, task_script, tasks_script}
+use Rattle.b3_check.specs.Tasks.{counted, line_task, line_tasks, task_script, tasks_script}
 use Rattle.b3_check.specs.Tasks.Task.{Find}
-use Rattle.b3_check.proofs.RunLemmas.{ran_answered, ran_said, ran_then, ran_then_counted, ran_then_counted_stopped, ran_then_stopped, stopped_answered, stopped_at_once, stopped_early, stopped_said}
+use Rattle.b3_check.proofs.RunLemmas.{ran_answered, ran_done, ran_said, ran_then, ran_then_counted, ran_then_counted_stopped, ran_then_stopped, stopped_answered, stopped_at_once, stopped_early, stopped_said}
 use Rattle.b3_check.proofs.ScriptLemmas.{in_turn-append, in_turn-more, none-tally_sum}
 
 -- ---- lines
@@ -64,44 +64,116 @@ pub runs_answered : {a b : IoState} {kind : Kind} {name : List ℕ} (limits : Li
 runs_answered limits c (Ok tally) next answer answered run = ran_answered next answer answered run
 runs_answered limits c (Err fault) next answer answered run = stopped_answered next answer answered run
 
+-- lists of so many bytes
+lists_small : (n k : ℕ) → n ≤ 2 ^ 30 → k ≤ 2 ^ 30 → n * (1 + k) ≤ 2 ^ 61
+lists_small n k few small =
+    let all : n * (1 + k) ≤ 2 ^ 30 * (1 + k) = mul-le-mul_right (1 + k) few in
+    omega (arith, all, small)
+
+-- the lists so far are checked
+pub record ListsSoFar (options : CheckOptions) (all left : List Operand) (a b : IoState) (tally : Tally) : Type 0 where
+  pub done : List Operand
+  pub parts : all ≡ done ++ left
+  pub ran : Ran (lists_script options done) a b tally
+  pub few : counted tally ≤ 2 * (length done * (1 + options.largest))
+  pub failures : b.failures ≤ a.failures + length done * (1 + options.largest)
+
+pub lists_none : {options : CheckOptions} {all : List Operand} {a : IoState} {m : Tally} → m ≡ no_tally
+    → ListsSoFar options all all a a m
+lists_none {options} {all} {a} {m} is =
+    record { done = []; parts = refl; ran = rw is (ran_done a); few = rw is (omega arith); failures = omega arith }
+
 -- one more list is run
-pub lists_more : {X : Type 0} {a b c : IoState} {m n : Tally} (view : X → List ℕ) (options : CheckOptions)
-    (xs : List X) (i : ℕ) (x : X)
-    → i < length xs → x ≡ get_or xs i x → Ran (lists_script options (map view (take i xs))) a b m
-    → Ran (list_script options (view x)) b c n
-    → Ran (lists_script options (map view (take (i + 1) xs))) a c (tally_sum m n)
-lists_more {X} {a} {b} {c} {m} {n} view options xs i x within is first second =
-    let more : take (i + 1) xs ≡ take i xs ++ x ∷ [] =
-    ap (λ k. take k xs) (add-one i) ∙ take-suc xs i x within ∙ ap (λ y. take i xs ++ y ∷ []) (sym is) in
-    let names : map view (take (i + 1) xs) ≡ map view (take i xs) ++ view x ∷ [] =
-    ap (map view) more ∙ map-append view (take i xs) (x ∷ []) in
-    let script : lists_script options (map view (take (i + 1) xs))
-    ≡ followed_by (lists_script options (map view (take i xs))) (list_script options (view x)) =
-    ap (lists_script options) names
-    ∙ ap in_turn (map-append (list_script options) (map view (take i xs)) (view x ∷ []))
-    ∙ in_turn-more (map (list_script options) (map view (take i xs))) (list_script options (view x)) in
-    rw script (ran_then first second)
+lists_next : (done : List Operand) (list : Operand) (k : ℕ)
+    → length (done ++ list ∷ []) * (1 + k) ≡ length done * (1 + k) + (1 + k)
+lists_next done list k =
+    ap (λ n. n * (1 + k)) (length-append done (list ∷ []) ∙ add-one (length done)) ∙ suc-mul (length done) (1 + k)
+
+pub lists_more : {options : CheckOptions} {all rest : List Operand} {a b c : IoState} {m n : Tally} (list : Operand)
+    → ListsSoFar options all (list ∷ rest) a b m → Ran (list_operand_script options list) b c n
+    → counted n ≤ 2 * (1 + options.largest) → c.failures ≤ b.failures + (1 + options.largest)
+    → ListsSoFar options all rest a c (tally_sum m n)
+lists_more {options} {all} {rest} {a} {b} {c} {m} {n} list so_far ran two count =
+    let done = so_far.done in
+    let script : lists_script options (done ++ list ∷ [])
+    ≡ followed_by (lists_script options done) (list_operand_script options list) =
+    ap in_turn (map-append (list_operand_script options) done (list ∷ []))
+    ∙ in_turn-more (map (list_operand_script options) done) (list_operand_script options list) in
+    let size = lists_next done list options.largest in
+    record {
+      done = done ++ list ∷ [];
+      parts = so_far.parts ∙ sym (append_assoc done (list ∷ []) rest);
+      ran = rw script (ran_then so_far.ran ran);
+      few = omega (arith, size, so_far.few, two);
+      failures = omega (arith, size, so_far.failures, count);
+    }
 
 -- a run stops at a list
-pub lists_stopped : {X : Type 0} {limits : Limits} {a b c : IoState} {m : Tally} {fault : RunFault} (view : X → List ℕ)
-    (options : CheckOptions) (xs : List X) (i : ℕ) (x : X)
-    → i < length xs → x ≡ get_or xs i x → Ran (lists_script options (map view (take i xs))) a b m
-    → Stopped limits (list_script options (view x)) b c fault
-    → Stopped limits (lists_script options (map view xs)) a c fault
-lists_stopped {X} {limits} {a} {b} {c} {m} {fault} view options xs i x within is ran stopped =
-    let parts : xs ≡ take i xs ++ x ∷ drop (suc i) xs =
-    sym (take-append-drop i xs) ∙ ap (λ ys. take i xs ++ ys)
-    (drop-cons xs i x within ∙ ap (λ y. y ∷ drop (suc i) xs) (sym is)) in
-    let rest = lists_script options (map view (drop (suc i) xs)) in
-    let names : map view xs ≡ map view (take i xs) ++ view x ∷ map view (drop (suc i) xs) =
-    ap (map view) parts ∙ map-append view (take i xs) (x ∷ drop (suc i) xs) in
-    let script : lists_script options (map view xs) ≡ followed_by (lists_script options (map view (take i xs)))
-    (followed_by (list_script options (view x)) rest) =
-    ap (lists_script options) names
-    ∙ ap in_turn (map-append (list_script options) (map view (take i xs)) (view x ∷ map view (drop (suc i) xs)))
-    ∙ in_turn-append (map (list_script options) (map view (take i xs)))
-    (list_script options (view x) ∷ map (list_script options) (map view (drop (suc i) xs))) in
-    rw script (ran_then_stopped ran (stopped_early rest stopped))
+pub lists_stopped : {options : CheckOptions} {all rest : List Operand} {a b c : IoState} {m : Tally} {limits : Limits}
+    {fault : RunFault} (list : Operand)
+    → ListsSoFar options all (list ∷ rest) a b m → Stopped limits (list_operand_script options list) b c fault
+    → Stopped limits (lists_script options all) a c fault
+lists_stopped {options} {all} {rest} {a} {b} {c} {m} {limits} {fault} list so_far stopped =
+    let done = so_far.done in
+    let later = lists_script options rest in
+    let script : lists_script options all
+    ≡ followed_by (lists_script options done) (followed_by (list_operand_script options list) later) =
+    ap (lists_script options) so_far.parts
+    ∙ ap in_turn (map-append (list_operand_script options) done (list ∷ rest))
+    ∙ in_turn-append (map (list_operand_script options) done) (map (list_operand_script options) (list ∷ rest)) in
+    rw script (ran_then_stopped so_far.ran (stopped_early later stopped))
+
+-- how many are done, and one more
+lists_within : {options : CheckOptions} {all rest : List Operand} {list : Operand} {a b : IoState} {m : Tally}
+    (so_far : ListsSoFar options all (list ∷ rest) a b m)
+    → (suc (length so_far.done) ≤ length all)
+    × (length so_far.done * (1 + options.largest) + (1 + options.largest) ≤ length all * (1 + options.largest))
+lists_within {options} {all} {rest} {list} {a} {b} {m} so_far =
+    let done = so_far.done in
+    let size : length all ≡ length done + suc (length rest) =
+    ap (λ (xs : List Operand). length xs) so_far.parts ∙ length-append done (list ∷ rest) in
+    let within : suc (length done) ≤ length all = omega (arith, size) in
+    let more = suc-mul (length done) (1 + options.largest) in
+    let all_fit : suc (length done) * (1 + options.largest) ≤ length all * (1 + options.largest) =
+    mul-le-mul_right (1 + options.largest) within in
+    (within, omega (arith, more, all_fit))
+
+-- the failures of the next can be counted, and so can what it counts
+pub lists_room : {options : CheckOptions} {all rest : List Operand} {list : Operand} {a b : IoState} {m : Tally}
+    → CanCount a (length all * (1 + options.largest)) → ListsSoFar options all (list ∷ rest) a b m
+    → CanCount b (1 + options.largest)
+lists_room {options} {all} {rest} {list} {a} {b} {m} room so_far =
+    let went = so_far.ran.went in
+    record {
+      shelf = omega (arith, room.shelf, so_far.failures, (lists_within so_far).1);
+      out = omega (arith, room.out, went.out.count);
+      err = omega (arith, room.err, went.err.count);
+    }
+
+pub lists_counted : {options : CheckOptions} {all rest : List Operand} {list : Operand} {a b : IoState} {m : Tally}
+    → length all ≤ 2 ^ 30 → options.largest ≤ 2 ^ 30 → ListsSoFar options all (list ∷ rest) a b m
+    → counted m ≤ 2 ^ 62
+lists_counted {options} {all} {rest} {list} {a} {b} {m} few small so_far =
+    let within = (lists_within so_far).0 in
+    let done_few : length so_far.done ≤ 2 ^ 30 = omega (arith, within, few) in
+    omega (arith, so_far.few, lists_small (length so_far.done) options.largest done_few small)
+
+-- the shelf failed no more often than lists and their bytes allow, at a fault in one of them too
+pub lists_failures : {options : CheckOptions} {all rest : List Operand} {list : Operand} {a b : IoState} {m : Tally}
+    (failures : ℕ) → ListsSoFar options all (list ∷ rest) a b m → failures ≤ b.failures + (1 + options.largest)
+    → failures ≤ a.failures + length all * (1 + options.largest)
+lists_failures {options} {all} {rest} {list} {a} {b} {m} failures so_far count =
+    omega (arith, count, so_far.failures, (lists_within so_far).1)
+
+-- no list is left
+pub lists_all : {options : CheckOptions} {all left : List Operand} {a b : IoState} {m : Tally} → left ≡ []
+    → ListsSoFar options all left a b m
+    → Ran (lists_script options all) a b m × (counted m ≤ 2 * (length all * (1 + options.largest)))
+    × (b.failures ≤ a.failures + length all * (1 + options.largest))
+lists_all {options} {all} {left} {a} {b} {m} none so_far =
+    let same : all ≡ so_far.done =
+    so_far.parts ∙ ap (λ xs. so_far.done ++ xs) none ∙ append-nil so_far.done in
+    (rw same so_far.ran, rw same so_far.few, rw same so_far.failures)
 
 -- ---- what is said after a run, by what was counted in it
 
@@ -138,26 +210,6 @@ pub stopped_unsummed : {limits : Limits} {s : Script} {a b : IoState} {m : Tally
 stopped_unsummed {limits} {s} {a} {b} {m} {fault} says ran refused =
     ran_then_counted_stopped no_tally (λ tally. Say (says tally) Done) ran
     (stopped_at_once (Say (says (tally_sum no_tally m)) Done) b fault refused)
-
--- ---- how many
-
--- lists of so many bytes
-pub lists_fit : (n i k : ℕ) → i < n → n ≤ 2 ^ 30 → k ≤ 2 ^ 30
-    → (i * (1 + k) + (1 + k) ≤ n * (1 + k)) × (n * (1 + k) ≤ 2 ^ 61)
-lists_fit n i k within few small =
-    let next : suc i * (1 + k) ≤ n * (1 + k) = mul-le-mul_right (1 + k) within in
-    let more = suc-mul i (1 + k) in
-    let all : n * (1 + k) ≤ 2 ^ 30 * (1 + k) = mul-le-mul_right (1 + k) few in
-    (omega (arith, next, more), omega (arith, all, small))
-
-pub lists_small : (n k : ℕ) → n ≤ 2 ^ 30 → k ≤ 2 ^ 30 → n * (1 + k) ≤ 2 ^ 61
-lists_small n k few small =
-    let all : n * (1 + k) ≤ 2 ^ 30 * (1 + k) = mul-le-mul_right (1 + k) few in
-    omega (arith, all, small)
-
--- one more list
-pub lists_next : (i k : ℕ) → (i + 1) * (1 + k) ≡ i * (1 + k) + (1 + k)
-lists_next i k = ap (λ n. n * (1 + k)) (add-one i) ∙ suc-mul i (1 + k)
 
 -- ---- the task of a line that is read
 

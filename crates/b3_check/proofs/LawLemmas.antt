@@ -16,12 +16,12 @@ use Rattle.b3_core.specs.Tree.{top}
 use Rattle.b3_core.specs.Words.{bytes_of}
 use Rattle.b3_core.specs.declared.nodes.Node.{Node}
 use Rattle.b3_core.proofs.OutputBytes.{length-output_bytes}
-use Rattle.b3_lines.specs.Lines.{HasNoLineFeed, lines_of}
+use Rattle.b3_lines.specs.Lines.{HasNo, lines_of}
 use Rattle.b3_lines.specs.Reading.{first_refusal}
 use Rattle.b3_lines.specs.Writing.{plain_text, shown, tagged_text}
-use Rattle.b3_lines.proofs.LinesOf.{lines_of-line, lines_of-nil}
 use Rattle.b3_lines.proofs.OneLine.{HasNoLineFeed-plain, HasNoLineFeed-tagged}
 use Rattle.b3_lines.proofs.Outcomes.{SaysAs-from_IsReadAs}
+use Rattle.b3_lines.proofs.Pieces.{pieces_of-nil, pieces_of-piece}
 use Rattle.b3_lines.proofs.ReadBack.{Reads-plain, ReadsTagged-tagged}
 use Rattle.b3_check.specs.declared.fault.RunFault.{RunFault}
 use Rattle.b3_check.specs.declared.judging.Verdict.{Verdict}
@@ -37,6 +37,8 @@ use Rattle.b3_check.specs.Contents.{Contents}
 use Rattle.b3_check.specs.Checks.{Entry, check_script, line_script, line_scripts, lines_script, list_end_script, verdict_on, verdict_report, warning, warning_script}
 use Rattle.b3_check.specs.Digests.{digest_of, digest_script, line_range}
 use Rattle.b3_check.specs.Laws.{AsksAll, AsksDigests, File, IsThere, IsReliable, Says, Wrote, all_ok, counted_over, digest, line_of, ok_of, oks_of, sums_of, tally_of, verdict, verdict_line, verdict_over, verdicts_on, words_of}
+use Rattle.b3_check.specs.Operands.{Operand}
+use Rattle.b3_check.specs.Operands.Operand.{Text}
 use Rattle.b3_check.specs.Runs.{RanFrom, RanSurely, RanSurelyOver, IoState, io_state}
 use Rattle.b3_check.specs.Scripts.{Report, Script, answer_of, followed_by, in_turn, joined, report_from, then_counted}
 use Rattle.b3_check.specs.Scripts.Kind.{Hashed, Listed}
@@ -59,12 +61,12 @@ and_false false = refl
 
 -- what a sum of files says
 report_from-names : (form : Form) (contents : Contents) (files : List File) → AllByRecursion (IsThere contents) files
-    → report_from contents (names_script form line_range (map (λ (file : File). file.name) files))
+    → report_from contents (names_script form line_range (map (λ (file : File). Text file.name) files))
     ≡ sums_of form files
 report_from-names form contents [] is = refl
 report_from-names form contents (file ∷ files) is =
     let name = file.name in
-    let rest = names_script form line_range (map (λ (f : File). f.name) files) in
+    let rest = names_script form line_range (map (λ (f : File). Text f.name) files) in
     let asks = digest_script line_range name (name_report form name) in
     let says = Say (failed_report name (codes "bad name")) Done in
     let said : Report = record { out = line_of form file; err = []; tally = one_ok } in
@@ -77,11 +79,12 @@ report_from-names form contents (file ∷ files) is =
     (one-add (length files))
 
 -- what a sum by digests says
-pub report_from-summed : (asked : SumOptions) (contents : Contents) (files : List File) (names : List (List ℕ))
-    → AsksDigests asked → names ≡ map (λ (file : File). file.name) files → AllByRecursion (IsThere contents) files
-    → report_from contents (sum_script asked names) ≡ sums_of asked.form files
-report_from-summed asked contents files names asks names_are is =
-    rw (asks.key, asks.seek, asks.length, names_are) (report_from-names asked.form contents files is)
+pub report_from-summed : (asked : SumOptions) (contents : Contents) (files : List File) (operands : List Operand)
+    → AsksDigests asked → operands ≡ map (λ (file : File). Text file.name) files
+    → AllByRecursion (IsThere contents) files
+    → report_from contents (sum_script asked operands) ≡ sums_of asked.form files
+report_from-summed asked contents files operands asks operands_are is =
+    rw (asks.key, asks.seek, asks.length, operands_are) (report_from-names asked.form contents files is)
 
 -- ---- a check
 
@@ -176,7 +179,7 @@ report_from-end asked contents list tally asks =
 -- what a check says of a list whose lines say something
 pub report_from-checked : (asked : CheckOptions) (contents : Contents) (list text : List ℕ) (entries : List Entry)
     → AsksAll asked → contents list ≡ Some text → AllZip Says (lines_of text) entries
-    → report_from contents (check_script asked (list ∷ [])) ≡ verdicts_on contents entries
+    → report_from contents (check_script asked (Text list ∷ [])) ≡ verdicts_on contents entries
 report_from-checked asked contents list text entries asks has says =
     let lines = in_turn (line_scripts asked list 1 (lines_of text)) in
     let ends = list_end_script asked list in
@@ -236,7 +239,7 @@ entry_of file = record { digest = digest file.content; name = file.name; shown =
 record IsLineOf (form : Form) (file : File) : Type 0 where
   text : List ℕ
   is : line_of form file ≡ text ++ 10 ∷ []
-  one : HasNoLineFeed text
+  one : HasNo 10 text
   says : Says text (entry_of file)
 
 line_of-form : (form : Form) (contents : Contents) (file : File) → shows_name form ≡ true → IsThere contents file
@@ -267,13 +270,13 @@ Says-files : (form : Form) (contents : Contents) (files : List File) → shows_n
     → AllByRecursion (IsThere contents) files
     → AllZip Says (lines_of (flat_map (line_of form) files)) (map entry_of files)
 Says-files form contents [] shows there =
-    subst (λ (lines : List (List ℕ)). AllZip Says lines []) (sym lines_of-nil) tt
+    subst (λ (lines : List (List ℕ)). AllZip Says lines []) (sym (pieces_of-nil 10)) tt
 Says-files form contents (file ∷ files) shows there =
     let rest = flat_map (line_of form) files in
     let line = line_of-form form contents file shows there.0 in
     let first : lines_of (line_of form file ++ rest) ≡ line.text ∷ lines_of rest =
     ap (λ (t : List ℕ). lines_of (t ++ rest)) line.is ∙ ap lines_of (append_assoc line.text (10 ∷ []) rest)
-    ∙ lines_of-line line.text rest line.one in
+    ∙ pieces_of-piece 10 line.text rest line.one in
     subst (λ (lines : List (List ℕ)). AllZip Says lines (map entry_of (file ∷ files))) (sym first)
     (line.says, Says-files form contents files shows there.1)
 
@@ -301,7 +304,7 @@ verdicts_said-files contents (file ∷ files) is =
 pub report_from-sums : (asked : CheckOptions) (form : Form) (contents : Contents) (list : List ℕ) (files : List File)
     → AsksAll asked → shows_name form ≡ true → contents list ≡ Some (flat_map (line_of form) files)
     → AllByRecursion (IsThere contents) files
-    → report_from contents (check_script asked (list ∷ [])) ≡ oks_of files
+    → report_from contents (check_script asked (Text list ∷ [])) ≡ oks_of files
 report_from-sums asked form contents list files asks shows has is =
     report_from-checked asked contents list (flat_map (line_of form) files) (map entry_of files) asks has
     (Says-files form contents files shows is)

@@ -12,6 +12,8 @@ pub mod OwingLemmas
 pub mod TaskLemmas
 -- What is read of a file: so far, to its end, and of a name.
 pub mod ReadLemmas
+-- The operands that are left: of a list of names, piece by piece.
+pub mod OperandLemmas
 -- Runs over lists of check lines.
 pub mod CheckLemmas
 -- What is written over a shelf that tells its contents, whatever fails.

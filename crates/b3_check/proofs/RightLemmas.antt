@@ -23,17 +23,19 @@ use Rattle.b3_check.specs.declared.options.KeyChoice.TheVariants.{Plain, Keyed, 
 use Rattle.b3_check.specs.declared.options.Limits.{Limits}
 use Rattle.b3_check.specs.declared.options.SumOptions.{SumOptions}
 use Rattle.b3_check.specs.declared.tally.Tally.{Tally}
-use Rattle.b3_check.specs.Checks.{Entry, check_script, entry_of, line_script, line_scripts, lines_script, list_end_report, list_script, lists_script, refused_report, unread_list_report, verdict_on, verdict_report, warning_report}
+use Rattle.b3_check.specs.Checks.{Entry, check_script, entry_of, line_script, line_scripts, lines_script, list_end_report, list_operand_script, list_script, lists_script, refused_report, unnamed_list_report, unread_list_report, verdict_on, verdict_report, warning_report}
 use Rattle.b3_check.specs.Contents.{Contents, input_name}
 use Rattle.b3_check.specs.Digests.{digest_of, digest_script, line_range, range_of}
-use Rattle.b3_check.specs.Laws.{ChecksRightly, IsJust, IsModeOf, LineIsRight, ListIsRight, NameIsRight, Says, SumsRightly, Writes, cannot_show, digest, total}
+use Rattle.b3_check.specs.Laws.{ChecksRightly, IsJust, IsModeOf, LineIsRight, ListIsRight, ListOperandIsRight, NameIsRight, OperandIsRight, Says, SumsRightly, Writes, cannot_show, digest, total}
+use Rattle.b3_check.specs.Operands.{Operand}
+use Rattle.b3_check.specs.Operands.Operand.{Text, NotText}
 use Rattle.b3_check.specs.Runs.{IoState}
 use Rattle.b3_check.specs.Devices.{Runs}
 use Rattle.b3_check.specs.Scripts.{AgreesWith, Answer, AnswersFirst, IsComplete, Report, Script, answer_of, followed_by, in_turn, joined, nothing, report, then_counted}
 use Rattle.b3_check.specs.Scripts.Kind.{Hashed, Key, Listed}
 use Rattle.b3_check.specs.Scripts.Script.{Ask, Done, Fail, Say}
 use Rattle.b3_check.specs.Sinks.{GainsBeginning}
-use Rattle.b3_check.specs.Sums.{failed_report, keyed_script, name_report, name_script, names_script, sum_script, with_mode}
+use Rattle.b3_check.specs.Sums.{failed_report, keyed_script, name_report, name_script, names_script, not_text, operand_script, sum_script, with_mode}
 use Rattle.b3_check.specs.Tallies.{no_tally, tally_sum}
 use Rattle.b3_check.proofs.CheckLemmas.{entry_of-read}
 use Rattle.b3_check.proofs.Gains.{GainsBeginning-longer}
@@ -52,9 +54,9 @@ abbrev HasEach : {A : Type 0} → (A → Report → Type 0) → List A → Repor
 HasEach {A} R xs said = (of : List Report) × AllZip R xs of × (said ≡ total of)
 
 -- the same of lists, and then the warning
-abbrev AreChecked : Contents → CheckOptions → List (List ℕ) → Report → Type 0
+abbrev AreChecked : Contents → CheckOptions → List Operand → Report → Type 0
 AreChecked contents options lists said =
-    (of : List Report) × AllZip (ListIsRight contents options) lists of
+    (of : List Report) × AllZip (ListOperandIsRight contents options) lists of
     × (said ≡ joined (total of) (warning_report options (total of).tally))
 
 -- what a line that is not refused says is its entry
@@ -220,14 +222,19 @@ module _ (contents : Contents) (sure : Bool) where
     | inr is ↦ subst (λ (a : Answer). Assures contents sure (keyed_script next a) P) (sym is.0) other
   ]
 
-  -- a complaint in the place of each name
-  complaints : (options : SumOptions) (names : List (List ℕ))
-      → (said : Report) × HasEach (NameIsRight contents options) names said
+  -- a complaint in the place of each operand
+  complaint_of : (options : SumOptions) (operand : Operand)
+      → (said : Report) × OperandIsRight contents options operand said
+  complaint_of options (Text name) = (failed_report name (codes "cannot read"), inr (inl refl))
+  complaint_of options (NotText list number) = (failed_report list (not_text number), refl)
+
+  complaints : (options : SumOptions) (operands : List Operand)
+      → (said : Report) × HasEach (OperandIsRight contents options) operands said
   complaints options [] = (nothing, ([], tt, refl))
-  complaints options (name ∷ names) =
-      let rest = complaints options names in
-      let one = failed_report name (codes "cannot read") in
-      (joined one rest.0, (one ∷ rest.1.0, (inr (inl refl), rest.1.1), ap (joined one) rest.1.2))
+  complaints options (operand ∷ operands) =
+      let rest = complaints options operands in
+      let one = complaint_of options operand in
+      (joined one.0 rest.0, (one.0 ∷ rest.1.0, (one.1, rest.1.1), ap (joined one.0) rest.1.2))
 
   -- a name that is answered has its line or a complaint
   named : (options : SumOptions) (mode : Mode) (name : List ℕ) (content : Option (List ℕ))
@@ -261,14 +268,22 @@ module _ (contents : Contents) (sure : Bool) where
         | inr is ↦ subst (λ (a : Answer). Right (says (digest_of range a))) (sym is.0) (inr (inl refl))
       ]))
 
-  Assures-sums : (options : SumOptions) (names : List (List ℕ))
-      → Assures contents sure (sum_script options names) (HasEach (NameIsRight contents options) names)
-  Assures-sums options names =
-      in_mode options.key (λ mode. names_script options.form (range_of mode options) names)
-      (HasEach (NameIsRight contents options) names)
-      (λ mode is_mode. Assures-each (NameIsRight contents options) (name_script options.form (range_of mode options))
-      (λ name. Assures-name options mode name is_mode) names)
-      (complaints options names)
+  Assures-operand : (options : SumOptions) (mode : Mode) (operand : Operand) → IsModeOf contents options.key mode
+      → Assures contents sure (operand_script options.form (range_of mode options) operand)
+      (OperandIsRight contents options operand)
+  Assures-operand options mode (Text name) is_mode = Assures-name options mode name is_mode
+  Assures-operand options mode (NotText list number) is_mode =
+      Assures-said (failed_report list (not_text number)) (OperandIsRight contents options (NotText list number)) refl
+
+  Assures-sums : (options : SumOptions) (operands : List Operand)
+      → Assures contents sure (sum_script options operands) (HasEach (OperandIsRight contents options) operands)
+  Assures-sums options operands =
+      in_mode options.key (λ mode. names_script options.form (range_of mode options) operands)
+      (HasEach (OperandIsRight contents options) operands)
+      (λ mode is_mode. Assures-each (OperandIsRight contents options)
+      (operand_script options.form (range_of mode options))
+      (λ operand. Assures-operand options mode operand is_mode) operands)
+      (complaints options operands)
 
   -- ---- checks
 
@@ -357,12 +372,20 @@ module _ (contents : Contents) (sure : Bool) where
         (Assures-said (unread_list_report options list) (ListIsRight contents options list) (inr refl))
   ]
 
-  Assures-checks : (options : CheckOptions) (lists : List (List ℕ))
+  Assures-list_operand : (options : CheckOptions) (list : Operand)
+      → Assures contents sure (list_operand_script options list) (ListOperandIsRight contents options list)
+  Assures-list_operand options (Text list) = Assures-list options list
+  Assures-list_operand options (NotText names number) =
+      Assures-said (unnamed_list_report options names number)
+      (ListOperandIsRight contents options (NotText names number)) refl
+
+  Assures-checks : (options : CheckOptions) (lists : List Operand)
       → Assures contents sure (check_script options lists) (AreChecked contents options lists)
   Assures-checks options lists =
-      Assures-ended (ListIsRight contents options) lists (lists_script options lists) (warning_report options)
+      Assures-ended (ListOperandIsRight contents options) lists (lists_script options lists) (warning_report options)
       (AreChecked contents options lists)
-      (Assures-each (ListIsRight contents options) (list_script options) (Assures-list options) lists)
+      (Assures-each (ListOperandIsRight contents options) (list_operand_script options) (Assures-list_operand options)
+      lists)
       (λ of right. (of, right, refl))
 
 -- ---- runs
@@ -400,18 +423,19 @@ writes limits s before after (Err fault) contents P told holds stopped =
     )
 
 pub SumsRightly-from_run : (limits : Limits) (before after : IoState) (result : Result Tally RunFault)
-    (contents : Contents) (options : SumOptions) (names : List (List ℕ)) → before.told ≡ Some contents
-    → Runs limits (sum_script options names) before after result
-    → SumsRightly contents options names before.out.held after.out.held before.err.held after.err.held result
-SumsRightly-from_run limits before after result contents options names told run =
-    let all = writes limits (sum_script options names) before after result contents
-    (HasEach (NameIsRight contents options) names) told (Assures-sums contents before.sure options names) run in
+    (contents : Contents) (options : SumOptions) (operands : List Operand) → before.told ≡ Some contents
+    → Runs limits (sum_script options operands) before after result
+    → SumsRightly contents options operands before.out.held after.out.held before.err.held after.err.held result
+SumsRightly-from_run limits before after result contents options operands told run =
+    let all = writes limits (sum_script options operands) before after result contents
+    (HasEach (OperandIsRight contents options) operands) told (Assures-sums contents before.sure options operands) run
+    in
     let Wrote_so : Report → Type 0 =
     λ p. Writes p before.out.held after.out.held before.err.held after.err.held result in
     record { said = all.1.0; right = all.1.1; writes = subst Wrote_so all.1.2 all.2 }
 
 pub ChecksRightly-from_run : (limits : Limits) (before after : IoState) (result : Result Tally RunFault)
-    (contents : Contents) (options : CheckOptions) (lists : List (List ℕ)) → before.told ≡ Some contents
+    (contents : Contents) (options : CheckOptions) (lists : List Operand) → before.told ≡ Some contents
     → Runs limits (check_script options lists) before after result
     → ChecksRightly contents options lists before.out.held after.out.held before.err.held after.err.held result
 ChecksRightly-from_run limits before after result contents options lists told run =

@@ -16,6 +16,8 @@ use Rattle.b3_check.specs.declared.options.Form.{Form}
 use Rattle.b3_check.specs.declared.options.Limits.{Limits}
 use Rattle.b3_check.specs.Contents.{Contents, HasContent}
 use Rattle.b3_check.specs.Digests.{digest_of, digest_script}
+use Rattle.b3_check.specs.Operands.{Operand}
+use Rattle.b3_check.specs.Operands.Operand.{Text, NotText}
 use Rattle.b3_check.specs.Owing.{RanOwing, on_out}
 use Rattle.b3_check.specs.Reading.{Digested}
 use Rattle.b3_check.specs.Runs.{Broke, Ran, IoState, Stopped, Went}
@@ -23,9 +25,9 @@ use Rattle.b3_check.specs.Devices.{CanCount}
 use Rattle.b3_check.specs.Scripts.{AgreesWith, Given, Report, answer_of, followed_by, in_turn}
 use Rattle.b3_check.specs.Scripts.Kind.{Hashed}
 use Rattle.b3_check.specs.Scripts.Script.{Done, Say}
-use Rattle.b3_check.specs.Sums.{failed_report, is_bad_name, name_report, name_script, names_script, shows_name}
+use Rattle.b3_check.specs.Sums.{failed_report, is_bad_name, name_report, name_script, names_script, operand_script, shows_name}
 use Rattle.b3_check.specs.Tallies.{no_tally, one_failed, one_missing, tally_sum}
-use Rattle.b3_check.specs.Tasks.{counted, Found, Task, name_asked, name_task, report_of, request_report, task_script, tasks_script}
+use Rattle.b3_check.specs.Tasks.{counted, Found, Task, name_asked, name_task, operand_task, report_of, request_report, task_script, tasks_script}
 use Rattle.b3_check.specs.Prefetch.{HasReport}
 use Rattle.b3_check.specs.Tasks.Task.{Tell, Find}
 use Rattle.b3_check.proofs.OwingLemmas.{owing_done, owing_stopped, owing_then, owing_written}
@@ -214,9 +216,9 @@ pub so_far_least_next : {range : OutputRange} {all rest : List Task} {task : Tas
 so_far_least_next {range} {all} {rest} {task} {a} {b} {v} {m} failures so_far count =
     omega (arith, count, so_far.failures, so_far_length so_far)
 
--- ---- names
+-- ---- operands
 
--- the tasks of names have their scripts
+-- the tasks of operands have their scripts
 task_script-name : (range : OutputRange) (form : Form) (name : List ℕ)
     → task_script range (name_task form name) ≡ name_script form range name
 task_script-name range form name =
@@ -227,8 +229,13 @@ task_script-name range form name =
     (name_report form name)))
     [ true ↦ refl | false ↦ refl ]
 
-pub tasks_script-names : {X : Type 0} (view : X → List ℕ) (range : OutputRange) (form : Form) (xs : List X)
-    → tasks_script range (map (λ x. name_task form (view x)) xs) ≡ names_script form range (map view xs)
-tasks_script-names view range form [] = refl
-tasks_script-names view range form (x ∷ xs) = λ i.
-    followed_by (task_script-name range form (view x) i) (tasks_script-names view range form xs i)
+task_script-operand : (range : OutputRange) (form : Form) (operand : Operand)
+    → task_script range (operand_task form operand) ≡ operand_script form range operand
+task_script-operand range form (Text name) = task_script-name range form name
+task_script-operand range form (NotText list number) = refl
+
+pub tasks_script-operands : (range : OutputRange) (form : Form) (operands : List Operand)
+    → tasks_script range (map (operand_task form) operands) ≡ names_script form range operands
+tasks_script-operands range form [] = refl
+tasks_script-operands range form (operand ∷ operands) = λ i.
+    followed_by (task_script-operand range form operand i) (tasks_script-operands range form operands i)

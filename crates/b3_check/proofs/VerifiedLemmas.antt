@@ -1,4 +1,4 @@
--- What is right and counts no failure: each name has its line, and each line of each list is verified.
+-- What is right and counts no failure: each operand has its line, and each line of each list is verified.
 use Rattle.std.proofs.Common.{◌≡◌, ◌⊎◌, ℕ, ◌+◌, ◌==◌, ◌&&◌, true, List, [], ◌∷◌, ◌++◌, Option, Result, Ok, Err, refl, sym, ◌∙◌, ap, subst, inl, inr, arith}
 use Rattle.std.specs.Prelude.{All, IfOk}
 use Rattle.std.specs.Io.KnownBytes.{Appends}
@@ -14,7 +14,9 @@ use Rattle.b3_check.specs.declared.options.SumOptions.{SumOptions}
 use Rattle.b3_check.specs.declared.tally.Tally.{Tally}
 use Rattle.b3_check.specs.Checks.{Entry, list_end_report, verdict_report}
 use Rattle.b3_check.specs.Contents.{Contents}
-use Rattle.b3_check.specs.Laws.{ChecksRightly, HasLine, IsJust, LineIsRight, LineIsVerified, ListIsRight, ListIsVerified, NameIsRight, SumsRightly, WritesAll, total}
+use Rattle.b3_check.specs.Laws.{ChecksRightly, IsJust, LineIsRight, LineIsVerified, ListOperandIsRight, ListOperandIsVerified, OperandHasLine, OperandIsRight, SumsRightly, WritesAll, total}
+use Rattle.b3_check.specs.Operands.{Operand}
+use Rattle.b3_check.specs.Operands.Operand.{Text, NotText}
 use Rattle.b3_check.specs.Scripts.{Report}
 use Rattle.b3_check.specs.Tallies.{one_failed, one_missing, status_of}
 
@@ -30,15 +32,18 @@ none_failed tally passed = elim (cases_Bool (tally.failed == 0 && tally.lists ==
 ]
 
 -- of reports that count no failed name each is a line
-HasLine-from_right : (contents : Contents) (options : SumOptions) (names : List (List ℕ)) (said : List Report)
-    → AllZip (NameIsRight contents options) names said → (total said).tally.failed ≡ 0
-    → AllZip (HasLine contents options) names said × ((total said).err ≡ [])
+HasLine-from_right : (contents : Contents) (options : SumOptions) (operands : List Operand) (said : List Report)
+    → AllZip (OperandIsRight contents options) operands said → (total said).tally.failed ≡ 0
+    → AllZip (OperandHasLine contents options) operands said × ((total said).err ≡ [])
 HasLine-from_right contents options [] [] right none = (tt, refl)
 HasLine-from_right contents options [] (one ∷ said) right none = absurd right
-HasLine-from_right contents options (name ∷ names) [] right none = absurd right
-HasLine-from_right contents options (name ∷ names) (one ∷ said) right none = elim right.0 [
+HasLine-from_right contents options (operand ∷ operands) [] right none = absurd right
+HasLine-from_right contents options (NotText list number ∷ operands) (one ∷ said) right none =
+    let failed : one.tally.failed ≡ 1 = ap (λ (p : Report). p.tally.failed) right.0 in
+    absurd (omega (arith, none, failed))
+HasLine-from_right contents options (Text name ∷ operands) (one ∷ said) right none = elim right.0 [
   | inl line ↦
-      let rest = HasLine-from_right contents options names said right.1 (omega (arith, none)) in (
+      let rest = HasLine-from_right contents options operands said right.1 (omega (arith, none)) in (
         (line, rest.0),
         ap (λ (p : Report). p.err ++ (total said).err) line.said_is ∙ rest.1,
       )
@@ -50,15 +55,15 @@ HasLine-from_right contents options (name ∷ names) (one ∷ said) right none =
       absurd (omega (arith, none, failed))
 ]
 
-pub WritesAll-from_right : (contents : Contents) (options : SumOptions) (names : List (List ℕ))
+pub WritesAll-from_right : (contents : Contents) (options : SumOptions) (operands : List Operand)
     (out_old out_new err_old err_new : Option (List ℕ)) (result : Result Tally RunFault)
-    → SumsRightly contents options names out_old out_new err_old err_new result
-    → IfOk result (λ tally. status_of tally ≡ 0 → WritesAll contents options names out_old out_new err_old err_new)
-WritesAll-from_right contents options names out_old out_new err_old err_new (Err fault) right = tt
-WritesAll-from_right contents options names out_old out_new err_old err_new (Ok tally) right = λ passed.
+    → SumsRightly contents options operands out_old out_new err_old err_new result
+    → IfOk result (λ tally. status_of tally ≡ 0 → WritesAll contents options operands out_old out_new err_old err_new)
+WritesAll-from_right contents options operands out_old out_new err_old err_new (Err fault) right = tt
+WritesAll-from_right contents options operands out_old out_new err_old err_new (Ok tally) right = λ passed.
     let counted = ap (λ (t : Tally). t.failed) right.writes.2 in
     let none = sym counted ∙ (none_failed tally passed).0 in
-    let lines = HasLine-from_right contents options names right.said right.right none in
+    let lines = HasLine-from_right contents options operands right.said right.right none in
     record {
       said = right.said;
       lines = lines.0;
@@ -102,12 +107,15 @@ LineIsVerified-from_right contents options list (line ∷ lines) (one ∷ said) 
 ]
 
 -- the same of lists
-ListIsVerified-from_right : (contents : Contents) (options : CheckOptions) (lists : List (List ℕ))
-    (said : List Report) → AllZip (ListIsRight contents options) lists said → (total said).tally.failed ≡ 0
-    → (total said).tally.lists ≡ 0 → AllByRecursion (ListIsVerified contents options) lists
+ListIsVerified-from_right : (contents : Contents) (options : CheckOptions) (lists : List Operand)
+    (said : List Report) → AllZip (ListOperandIsRight contents options) lists said → (total said).tally.failed ≡ 0
+    → (total said).tally.lists ≡ 0 → AllByRecursion (ListOperandIsVerified contents options) lists
 ListIsVerified-from_right contents options [] said right none no_list = tt
 ListIsVerified-from_right contents options (list ∷ lists) [] right none no_list = absurd right
-ListIsVerified-from_right contents options (list ∷ lists) (one ∷ said) right none no_list = elim right.0 [
+ListIsVerified-from_right contents options (NotText names number ∷ lists) (one ∷ said) right none no_list =
+    let counted = ap (λ (p : Report). p.tally.lists) right.0 in
+    absurd (omega (arith, no_list, counted))
+ListIsVerified-from_right contents options (Text list ∷ lists) (one ∷ said) right none no_list = elim right.0 [
   | inl has ↦
       let counted : one.tally.failed
       ≡ (total has.of_lines).tally.failed + (list_end_report options list (total has.of_lines).tally).tally.failed =
@@ -126,15 +134,15 @@ ListIsVerified-from_right contents options (list ∷ lists) (one ∷ said) right
       absurd (omega (arith, no_list, counted))
 ]
 
-pub AllVerified-from_right : (contents : Contents) (options : CheckOptions) (lists : List (List ℕ))
+pub AllVerified-from_right : (contents : Contents) (options : CheckOptions) (lists : List Operand)
     (out_old out_new err_old err_new : Option (List ℕ)) (result : Result Tally RunFault)
     → ChecksRightly contents options lists out_old out_new err_old err_new result
-    → IfOk result (λ tally. status_of tally ≡ 0 → All (ListIsVerified contents options) lists)
+    → IfOk result (λ tally. status_of tally ≡ 0 → All (ListOperandIsVerified contents options) lists)
 AllVerified-from_right contents options lists out_old out_new err_old err_new (Err fault) right = tt
 AllVerified-from_right contents options lists out_old out_new err_old err_new (Ok tally) right = λ passed.
     let none = none_failed tally passed in
     let failed : tally.failed ≡ (total right.said).tally.failed + 0 = ap (λ (t : Tally). t.failed) right.writes.2 in
     let no_list : tally.lists ≡ (total right.said).tally.lists + 0 = ap (λ (t : Tally). t.lists) right.writes.2 in
-    All-from_recursion (ListIsVerified contents options) lists
+    All-from_recursion (ListOperandIsVerified contents options) lists
     (ListIsVerified-from_right contents options lists right.said right.right (omega (arith, none.0, failed))
     (omega (arith, none.1, no_list)))

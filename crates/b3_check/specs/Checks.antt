@@ -19,7 +19,9 @@ use Rattle.b3_check.specs.Scripts.Kind.{Listed}
 use Rattle.b3_check.specs.Scripts.Script.{Done, Say, Ask}
 use Rattle.b3_check.specs.Digests.{digest_script, line_range}
 use Rattle.b3_check.specs.Faults.{prefix}
-use Rattle.b3_check.specs.Sums.{complaint, line_feed}
+use Rattle.b3_check.specs.Operands.{Operand}
+use Rattle.b3_check.specs.Operands.Operand.{Text, NotText}
+use Rattle.b3_check.specs.Sums.{complaint, line_feed, not_text}
 
 -- what a line that is not refused says: a digest, a name, and the name as it stands in the line
 pub record Entry : Type 0 where
@@ -158,9 +160,18 @@ lines_script options list (Ok text) =
 abbrev pub list_script : CheckOptions → List ℕ → Script
 list_script options list = Ask Listed list (lines_script options list)
 
+-- what is said of a list whose name is not text, by the list of names and the number there
+abbrev pub unnamed_list_report : CheckOptions → List ℕ → ℕ → Report
+unnamed_list_report options names number = err_report options (complaint names (not_text number)) one_list
+
+-- the script of an operand: a list whose name is not text fails by itself
+abbrev pub list_operand_script : CheckOptions → Operand → Script
+list_operand_script options (Text list) = list_script options list
+list_operand_script options (NotText names number) = Say (unnamed_list_report options names number) Done
+
 -- the script of lists
-abbrev pub lists_script : CheckOptions → List (List ℕ) → Script
-lists_script options lists = in_turn (map (list_script options) lists)
+abbrev pub lists_script : CheckOptions → List Operand → Script
+lists_script options lists = in_turn (map (list_operand_script options) lists)
 
 -- the words after the number of lines that failed
 abbrev pub mismatches : ℕ → List ℕ
@@ -180,5 +191,5 @@ abbrev pub warning_script : CheckOptions → Tally → Script
 warning_script options tally = Say (warning_report options tally) Done
 
 -- the script of a run over lists
-abbrev pub check_script : CheckOptions → List (List ℕ) → Script
+abbrev pub check_script : CheckOptions → List Operand → Script
 check_script options lists = then_counted (lists_script options lists) no_tally (warning_script options)

@@ -20,11 +20,13 @@ use Rattle.b3_check.specs.declared.options.KeyChoice.{KeyChoice}
 use Rattle.b3_check.specs.declared.options.KeyChoice.TheVariants.{Plain, Keyed, Derive}
 use Rattle.b3_check.specs.declared.options.SumOptions.{SumOptions}
 use Rattle.b3_check.specs.declared.tally.Tally.{Tally}
-use Rattle.b3_check.specs.Checks.{Entry, list_end_report, refused_report, unread_list_report, verdict_report, warning, warning_report}
+use Rattle.b3_check.specs.Checks.{Entry, list_end_report, refused_report, unnamed_list_report, unread_list_report, verdict_report, warning, warning_report}
 use Rattle.b3_check.specs.Contents.{Contents, input_name}
+use Rattle.b3_check.specs.Operands.{Operand}
+use Rattle.b3_check.specs.Operands.Operand.{Text, NotText}
 use Rattle.b3_check.specs.Scripts.{Report, joined, nothing}
 use Rattle.b3_check.specs.Sinks.{GainsBeginning}
-use Rattle.b3_check.specs.Sums.{digest_text, failed_report, is_bad_name, name_report, shows_name}
+use Rattle.b3_check.specs.Sums.{digest_text, failed_report, is_bad_name, name_report, not_text, shows_name}
 use Rattle.b3_check.specs.Tallies.{no_tally, one_differing, one_failed, one_ok, tally_sum}
 
 -- ---- the words
@@ -79,18 +81,28 @@ NameIsRight contents options name said =
     ⊎ ((said ≡ failed_report name (codes "cannot read"))
     ⊎ ((cannot_show options.form name ≡ true) × (said ≡ failed_report name (codes "bad name"))))
 
--- each name in order has its line or a complaint, and no more is written
-pub record SumsRightly (contents : Contents) (options : SumOptions) (names : List (List ℕ))
+-- an operand has its name's line or complaint; of one that is not text that is said
+abbrev pub OperandIsRight : Contents → SumOptions → Operand → Report → Type 0
+OperandIsRight contents options (Text name) said = NameIsRight contents options name said
+OperandIsRight contents options (NotText list number) said = said ≡ failed_report list (not_text number)
+
+-- an operand has its name's line
+abbrev pub OperandHasLine : Contents → SumOptions → Operand → Report → Type 0
+OperandHasLine contents options (Text name) said = HasLine contents options name said
+OperandHasLine contents options (NotText list number) said = ⊥
+
+-- each operand in order has its line or a complaint, and no more is written
+pub record SumsRightly (contents : Contents) (options : SumOptions) (operands : List Operand)
     (out_old out_new err_old err_new : Option (List ℕ)) (result : Result Tally RunFault) : Type 0 where
   pub said : List Report
-  pub right : AllZip (NameIsRight contents options) names said
+  pub right : AllZip (OperandIsRight contents options) operands said
   pub writes : Writes (total said) out_old out_new err_old err_new result
 
--- each name in order has its line, and there is no complaint
-pub record WritesAll (contents : Contents) (options : SumOptions) (names : List (List ℕ))
+-- each operand in order has its line, and there is no complaint
+pub record WritesAll (contents : Contents) (options : SumOptions) (operands : List Operand)
     (out_old out_new err_old err_new : Option (List ℕ)) : Type 0 where
   pub said : List Report
-  pub lines : AllZip (HasLine contents options) names said
+  pub lines : AllZip (OperandHasLine contents options) operands said
   pub out : Appends out_old out_new (total said).out
   pub err : Appends err_old err_new []
 
@@ -134,11 +146,16 @@ abbrev pub ListIsRight : Contents → CheckOptions → List ℕ → Report → T
 ListIsRight contents options list said =
     HasLines contents options list said ⊎ (said ≡ unread_list_report options list)
 
+-- an operand has what is said of its list; of one that is not text that is said
+abbrev pub ListOperandIsRight : Contents → CheckOptions → Operand → Report → Type 0
+ListOperandIsRight contents options (Text list) said = ListIsRight contents options list said
+ListOperandIsRight contents options (NotText names number) said = said ≡ unnamed_list_report options names number
+
 -- each list in order has what is said of its lines or a complaint, then comes the warning, and no more is written
-pub record ChecksRightly (contents : Contents) (options : CheckOptions) (lists : List (List ℕ))
+pub record ChecksRightly (contents : Contents) (options : CheckOptions) (lists : List Operand)
     (out_old out_new err_old err_new : Option (List ℕ)) (result : Result Tally RunFault) : Type 0 where
   pub said : List Report
-  pub right : AllZip (ListIsRight contents options) lists said
+  pub right : AllZip (ListOperandIsRight contents options) lists said
   pub writes : Writes (joined (total said) (warning_report options (total said).tally))
       out_old out_new err_old err_new result
 
@@ -153,6 +170,11 @@ pub record ListIsVerified (contents : Contents) (options : CheckOptions) (list :
   pub text : List ℕ
   pub has : contents list ≡ Some text
   pub lines : All (LineIsVerified contents options) (lines_of text)
+
+-- the operand is such a list
+abbrev pub ListOperandIsVerified : Contents → CheckOptions → Operand → Type 0
+ListOperandIsVerified contents options (Text list) = ListIsVerified contents options list
+ListOperandIsVerified contents options (NotText names number) = ⊥
 
 -- ---- of files that are known: over a shelf that tells its contents, and fails nowhere else
 

@@ -8,6 +8,7 @@ pub mod Devices
 pub mod Runs
 pub mod Owing
 pub mod Digests
+pub mod Operands
 pub mod Sums
 pub mod Checks
 pub mod Tasks

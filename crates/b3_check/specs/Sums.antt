@@ -1,5 +1,5 @@
--- The script of a run that writes the digest of each name of a list.
-use Rattle.std.specs.Prelude.{ℕ, ◌==◌, ◌||◌, ◌&&◌, Bool, true, false, if◌then◌else◌, List, [], ◌∷◌, ◌++◌, Ok, Err, codes, length, map}
+-- The script of a run that writes the digest of each name.
+use Rattle.std.specs.Prelude.{ℕ, ◌==◌, ◌||◌, ◌&&◌, Bool, true, false, if◌then◌else◌, List, [], ◌∷◌, ◌++◌, Ok, Err, codes, decimal, length, map}
 use Rattle.std.specs.String.{string_bytes}
 use Rattle.hex.specs.Hex.{encode_lower}
 use Rattle.b3_core.specs.Modes.{hash_mode, keyed_mode}
@@ -16,6 +16,8 @@ use Rattle.b3_check.specs.declared.options.KeyChoice.{KeyChoice}
 use Rattle.b3_check.specs.declared.options.KeyChoice.TheVariants.{Plain, Keyed, Derive}
 use Rattle.b3_check.specs.Contents.{input_name}
 use Rattle.b3_check.specs.Faults.{prefix}
+use Rattle.b3_check.specs.Operands.{Operand}
+use Rattle.b3_check.specs.Operands.Operand.{Text, NotText}
 use Rattle.b3_check.specs.Tallies.{one_failed, one_ok}
 use Rattle.b3_check.specs.Scripts.{Answer, Given, Script, Report, in_turn}
 use Rattle.b3_check.specs.Scripts.Kind.{Key}
@@ -63,9 +65,18 @@ name_script form range name =
     if shows_name form && is_bad_name name then Say (failed_report name (codes "bad name")) Done
     else digest_script range name (name_report form name)
 
--- the script of a list of names
-abbrev pub names_script : Form → OutputRange → List (List ℕ) → Script
-names_script form range names = in_turn (map (name_script form range) names)
+-- why the name of this number in a list of names has no line
+abbrev pub not_text : ℕ → List ℕ
+not_text number = codes "name " ++ decimal number ++ codes " is not text"
+
+-- the script of an operand: a name that is not text fails by itself
+abbrev pub operand_script : Form → OutputRange → Operand → Script
+operand_script form range (Text name) = name_script form range name
+operand_script form range (NotText list number) = Say (failed_report list (not_text number)) Done
+
+-- the script of operands
+abbrev pub names_script : Form → OutputRange → List Operand → Script
+names_script form range operands = in_turn (map (operand_script form range) operands)
 
 -- what follows the answer to the key: a fault, unless it is 32 bytes
 abbrev pub keyed_script : (Mode → Script) → Answer → Script
@@ -78,9 +89,10 @@ with_mode Plain next = next hash_mode
 with_mode Keyed next = Ask Key input_name (keyed_script next)
 with_mode (Derive context) next = next (derived_mode (string_bytes context))
 
--- the script of a run over a list of names
-abbrev pub sum_script : SumOptions → List (List ℕ) → Script
-sum_script options names = with_mode options.key (λ mode. names_script options.form (range_of mode options) names)
+-- the script of a run over operands
+abbrev pub sum_script : SumOptions → List Operand → Script
+sum_script options operands =
+    with_mode options.key (λ mode. names_script options.form (range_of mode options) operands)
 
 -- how many keys are asked for
 abbrev pub keys_asked : KeyChoice → ℕ

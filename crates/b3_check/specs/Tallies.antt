@@ -10,7 +10,7 @@ no_tally = record { ok = 0; failed = 0; lists = 0; differing = 0; malformed = 0;
 abbrev pub one_ok : Tally
 one_ok = record { ok = 1; failed = 0; lists = 0; differing = 0; malformed = 0; missing = 0 }
 
--- one name cannot be read, or no line can show it
+-- one name cannot be read or is not text, or no line can show it
 abbrev pub one_failed : Tally
 one_failed = record { ok = 0; failed = 1; lists = 0; differing = 0; malformed = 0; missing = 0 }
 

@@ -19,9 +19,11 @@ use Rattle.b3_check.specs.declared.tally.Tally.{Tally}
 use Rattle.b3_check.specs.Checks.{entry_of, refused_report, verdict_on, verdict_report}
 use Rattle.b3_check.specs.Digests.{digest_script}
 use Rattle.b3_check.specs.Runs.{Broke, IoState, Stopped, Went}
+use Rattle.b3_check.specs.Operands.{Operand}
+use Rattle.b3_check.specs.Operands.Operand.{Text, NotText}
 use Rattle.b3_check.specs.Scripts.{Answer, AnswersFirst, Given, IsComplete, Report, Script, given_map, in_turn, nothing, report}
 use Rattle.b3_check.specs.Scripts.Script.{Done, Say}
-use Rattle.b3_check.specs.Sums.{failed_report, is_bad_name, name_report, shows_name}
+use Rattle.b3_check.specs.Sums.{failed_report, is_bad_name, name_report, not_text, shows_name}
 
 -- something is said, or a name is asked for and what its digest gives is said
 pub data Task : Type 0 where
@@ -102,6 +104,11 @@ abbrev pub name_task : Form → List ℕ → Task
 name_task form name =
     if shows_name form && is_bad_name name then Tell (failed_report name (codes "bad name"))
     else Find name (name_report form name)
+
+-- the task of an operand
+abbrev pub operand_task : Form → Operand → Task
+operand_task form (Text name) = name_task form name
+operand_task form (NotText list number) = Tell (failed_report list (not_text number))
 
 -- the shelf gave the answers that a script asks for, and its report over them is to be said
 pub record Found (script : Script) (before after : IoState) (message : Message) : Type 0 where

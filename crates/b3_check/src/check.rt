@@ -1,14 +1,16 @@
 //! The run that checks lists of check lines.
 
-ghost use Rattle.std.specs.Prelude.{◌≡◌, ◌+◌, ◌*◌, ◌-◌, ◌^◌, ◌<◌, ◌≤◌, ℕ, List, [], ◌∷◌, All, Ok, Some, true, map, string_bytes, length, vec_len, IfOk, IfErr, if◌then◌else◌};
+ghost use Rattle.std.specs.Prelude.{◌≡◌, ◌+◌, ◌*◌, ◌-◌, ◌^◌, ◌<◌, ◌≤◌, ℕ, List, [], ◌∷◌, All, Ok, Some, true, length, vec_len, IfOk, IfErr, if◌then◌else◌};
 ghost use Rattle.std.specs.List.{AllZip};
 ghost use Rattle.b3_lines.specs.Lines.{lines_of};
 ghost use Rattle.b3_lines.specs.Reading.{IsReadAs};
-ghost use Rattle.b3_check.specs.Checks.{Entry, check_script, entry_of, lines_script, list_script, lists_script};
+ghost use Rattle.b3_check.specs.Checks.{Entry, check_script, entry_of, lines_script, list_operand_script, list_script, lists_script};
 ghost use Rattle.b3_check.specs.Contents.{Contents};
 ghost use Rattle.b3_check.specs.Digests.{line_range};
 ghost use Rattle.b3_check.specs.Faults.{is_write_fault};
-ghost use Rattle.b3_check.specs.Laws.{AsksAll, ChecksRightly, File, IsThere, IsReliable, ListIsVerified, Says, Wrote, oks_of, sums_of, verdicts_on};
+ghost use Rattle.b3_check.specs.Laws.{AsksAll, ChecksRightly, File, IsThere, IsReliable, ListOperandIsVerified, Says, Wrote, oks_of, sums_of, verdicts_on};
+ghost use Rattle.b3_check.specs.Operands.{operand_of, operands_left};
+ghost use Rattle.b3_check.specs.Operands.Operand.{Text};
 ghost use Rattle.b3_check.specs.Options.{CanCheck, check_limits};
 ghost use Rattle.b3_check.specs.Devices.{CanCount, Runs, loans, io_state_of};
 ghost use Rattle.b3_check.specs.Runs.{Ran, RanSurely, Stopped, io_state};
@@ -23,6 +25,7 @@ use crate::fault::RunFault;
 use crate::list_lines::ListLines;
 use crate::lists::ListReader;
 use crate::message::Message;
+use crate::operands::{Operand, Operands};
 use crate::options::CheckOptions;
 use crate::output_range::OutputRange;
 use crate::pool::Pool;
@@ -57,33 +60,33 @@ pub fn run_check<
     rt: &R,
     alloc: Global,
     shelf: &mut S,
-    lists: &[String],
+    lists: Operands<'_>,
     out: &mut O,
     err: &mut E,
     options: &CheckOptions,
     gate: &G,
 ) -> Result<Tally, RunFault>
     requires options { CanCheck options.now }
-    requires lists { length lists.now ≤ 2 ^ 30 }
+    requires lists { length (operands_left lists) ≤ 2 ^ 30 }
     requires shelf_failures { S.failures shelf.old < 2 ^ 63 }
     requires out_failures { O.failures out.old < 2 ^ 63 }
     requires err_failures { E.failures err.old < 2 ^ 63 }
 
     // The texts and the tally are those of one list of answers, in which as many names were not read as
     // the shelf's count rose.
-    ensures ok { IfOk result (λ tally. Ran (check_script options.now (map string_bytes lists.now))
+    ensures ok { IfOk result (λ tally. Ran (check_script options.now (operands_left lists.entry))
         (io_state S.Shelf O.Sink E.Sink shelf.old out.old err.old)
         (io_state S.Shelf O.Sink E.Sink shelf.new out.new err.new) tally) }
 
     // Over a shelf that fails nowhere else they are those of the contents.
-    ensures sure { IfOk result (λ tally. RanSurely (check_script options.now (map string_bytes lists.now))
+    ensures sure { IfOk result (λ tally. RanSurely (check_script options.now (operands_left lists.entry))
         (io_state S.Shelf O.Sink E.Sink shelf.old out.old err.old)
         (io_state S.Shelf O.Sink E.Sink shelf.new out.new err.new) tally) }
 
     // Of a list that is known it writes the verdict on each line, where each says something, in order.
     ensures checks { (contents : Contents) (list text : List ℕ) (entries : List Entry)
         → IsReliable (S.told shelf.old) (S.is_sure shelf.old) contents
-        → AsksAll options.now → map string_bytes lists.now ≡ list ∷ []
+        → AsksAll options.now → operands_left lists.entry ≡ Text list ∷ []
         → contents list ≡ Some text → AllZip Says (lines_of text) entries
         → IfOk result (λ tally. Wrote (verdicts_on contents entries)
         (O.held out.old) (O.held out.new) (E.held err.old) (E.held err.new) tally) }
@@ -91,7 +94,7 @@ pub fn run_check<
     // Of a list that a sum wrote of files that are there it writes that each is ok, in order.
     ensures sums_check { (contents : Contents) (form : Form) (list : List ℕ) (files : List File)
         → IsReliable (S.told shelf.old) (S.is_sure shelf.old) contents
-        → AsksAll options.now → map string_bytes lists.now ≡ list ∷ []
+        → AsksAll options.now → operands_left lists.entry ≡ Text list ∷ []
         → shows_name form ≡ true → contents list ≡ Some (sums_of form files).out → All (IsThere contents) files
         → IfOk result (λ tally. Wrote (oks_of files)
         (O.held out.old) (O.held out.new) (E.held err.old) (E.held err.new) tally) }
@@ -102,20 +105,20 @@ pub fn run_check<
 
     // At a fault both sinks gained beginnings of the texts so far, and the fault has its cause.
     ensures fault { IfErr result (λ fault.
-        Stopped (check_limits options.now) (check_script options.now (map string_bytes lists.now))
+        Stopped (check_limits options.now) (check_script options.now (operands_left lists.entry))
         (io_state S.Shelf O.Sink E.Sink shelf.old out.old err.old)
         (io_state S.Shelf O.Sink E.Sink shelf.new out.new err.new) fault) }
 
     // Over a shelf that tells its contents, whatever fails: each line of each list has the right verdict, `OK` only
     // where its digest is that of the content, or is refused; at a fault a beginning of that is written.
     ensures right { (contents : Contents) → S.told shelf.old ≡ Some contents
-        → ChecksRightly contents options.now (map string_bytes lists.now)
+        → ChecksRightly contents options.now (operands_left lists.entry)
         (O.held out.old) (O.held out.new) (E.held err.old) (E.held err.new) result }
 
     // Where the status is 0 each line of each list says the digest of its name's content.
     ensures all_verified { (contents : Contents) → S.told shelf.old ≡ Some contents
         → IfOk result (λ tally. status_of tally ≡ 0
-        → All (ListIsVerified contents options.now) (map string_bytes lists.now)) }
+        → All (ListOperandIsVerified contents options.now) (operands_left lists.entry)) }
 
     ensures write_fault { O.failures out.new + E.failures err.new
         ≡ O.failures out.old + E.failures err.old + (if is_write_fault result then 1 else 0) }
@@ -123,7 +126,8 @@ pub fn run_check<
     ensures err_count { E.failures err.old ≤ E.failures err.new }
 
     // A list has at most as many lines as it may have bytes.
-    ensures shelf_count { S.failures shelf.new ≤ S.failures shelf.old + length lists.now * (1 + options.now.largest) }
+    ensures shelf_count { S.failures shelf.new
+        ≤ S.failures shelf.old + length (operands_left lists.entry) * (1 + options.now.largest) }
     ensures told { S.told shelf.new ≡ S.told shelf.old }
     ensures still_sure { S.is_sure shelf.new ≡ S.is_sure shelf.old }
 {
@@ -142,19 +146,19 @@ fn check_lists<R: Threads + Wait + Sync, G: Gate + Sync, S: Shelf + Send + Sync,
     alloc: Global,
     pool: Pool<'_, R, G>,
     devices: &mut Devices<'_, '_, '_, S, O, E>,
-    lists: &[String],
+    lists: Operands<'_>,
     options: &CheckOptions,
 ) -> Result<Tally, RunFault>
     requires options { CanCheck options.now }
-    requires lists { length lists.now ≤ 2 ^ 30 }
+    requires lists { length (operands_left lists) ≤ 2 ^ 30 }
     requires countable { CanCount (io_state_of S.Shelf O.Sink E.Sink devices.old)
-        (length lists.now * (1 + options.now.largest)) }
-    ensures run { Runs (check_limits options.now) (check_script options.now (map string_bytes lists.now))
+        (length (operands_left lists) * (1 + options.now.largest)) }
+    ensures run { Runs (check_limits options.now) (check_script options.now (operands_left lists.entry))
         (io_state_of S.Shelf O.Sink E.Sink devices.old) (io_state_of S.Shelf O.Sink E.Sink devices.new) result }
-    ensures sure { IfOk result (λ tally. RanSurely (check_script options.now (map string_bytes lists.now))
+    ensures sure { IfOk result (λ tally. RanSurely (check_script options.now (operands_left lists.entry))
         (io_state_of S.Shelf O.Sink E.Sink devices.old) (io_state_of S.Shelf O.Sink E.Sink devices.new) tally) }
     ensures shelf_count { S.failures devices.new.shelf.now
-        ≤ S.failures devices.old.shelf.now + length lists.now * (1 + options.now.largest) }
+        ≤ S.failures devices.old.shelf.now + length (operands_left lists.entry) * (1 + options.now.largest) }
     ensures loans { loans devices.new ≡ loans devices.old }
 {
     let mut checker = Checker::new(alloc, pool, options)?;
@@ -203,25 +207,52 @@ impl<'c, R: Threads + Wait + Sync, G: Gate + Sync> Checker<'c, R, G> {
     fn check_all<S: Shelf + Send + Sync, O: Sink, E: Sink>(
         &mut self,
         devices: &mut Devices<'_, '_, '_, S, O, E>,
-        lists: &[String],
+        mut lists: Operands<'_>,
     ) -> Result<Tally, RunFault>
-        requires lists { length lists.now ≤ 2 ^ 30 }
+        requires lists { length (operands_left lists) ≤ 2 ^ 30 }
         requires countable { CanCount (io_state_of S.Shelf O.Sink E.Sink devices.old)
-            (length lists.now * (1 + self.old.options.largest)) }
-        ensures run { Runs (check_limits self.old.options) (lists_script self.old.options (map string_bytes lists.now))
+            (length (operands_left lists) * (1 + self.old.options.largest)) }
+        ensures run { Runs (check_limits self.old.options) (lists_script self.old.options (operands_left lists.entry))
             (io_state_of S.Shelf O.Sink E.Sink devices.old) (io_state_of S.Shelf O.Sink E.Sink devices.new) result }
         ensures shelf_count { S.failures devices.new.shelf.now
-            ≤ S.failures devices.old.shelf.now + length lists.now *
-            (1 + self.old.options.largest) }
-        ensures count { IfOk result (λ tally. counted tally ≤ 2 * (length lists.now * (1 + self.old.options.largest))) }
+            ≤ S.failures devices.old.shelf.now
+            + length (operands_left lists.entry) * (1 + self.old.options.largest) }
+        ensures count { IfOk result (λ tally. counted tally
+            ≤ 2 * (length (operands_left lists.entry) * (1 + self.old.options.largest))) }
         ensures loans { loans devices.new ≡ loans devices.old }
     {
         let mut tally = Tally::none();
-        for list in lists {
-            let one = self.check_list(devices, list.as_str())?;
+        while let Some(list) = lists.next() {
+            let one = self.check_operand(devices, list)?;
             tally.add(&one);
         }
         Ok(tally)
+    }
+
+    // Checks a list, or says that its name is not text.
+    fn check_operand<S: Shelf + Send + Sync, O: Sink, E: Sink>(
+        &mut self,
+        devices: &mut Devices<'_, '_, '_, S, O, E>,
+        list: Operand<'_>,
+    ) -> Result<Tally, RunFault>
+        requires { CanCount (io_state_of S.Shelf O.Sink E.Sink devices.old) (1 + self.old.options.largest) }
+        ensures run { Runs (check_limits self.old.options)
+            (list_operand_script self.old.options (operand_of list.entry))
+            (io_state_of S.Shelf O.Sink E.Sink devices.old) (io_state_of S.Shelf O.Sink E.Sink devices.new) result }
+        ensures count { IfOk result (λ tally. counted tally ≤ 2 * (1 + self.old.options.largest)) }
+        ensures shelf_count { S.failures devices.new.shelf.now
+            ≤ S.failures devices.old.shelf.now + (1 + self.old.options.largest) }
+        ensures loans { loans devices.new ≡ loans devices.old }
+        ensures options { self.new.options ≡ self.old.options }
+    {
+        match list {
+            Operand::Text(name) => self.check_list(devices, name),
+            Operand::NotText(names, number) => {
+                let message = Message::unnamed_list(self.alloc, &self.options, names, number)?;
+                devices.say(&message)?;
+                Ok(message.tally)
+            }
+        }
     }
 
     // Reads a list, and checks its lines.

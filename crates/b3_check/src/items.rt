@@ -1,10 +1,12 @@
 //! What a run does, item after item.
 
-ghost use Rattle.std.specs.Prelude.{◌≡◌, ℕ, Bool, List, [], ◌∷◌, true, false, map, string_bytes, IfOk, IfNone, IfSome, MatchOption};
+ghost use Rattle.std.specs.Prelude.{◌≡◌, ℕ, Bool, List, [], ◌∷◌, true, false, map, IfOk, IfNone, IfSome, MatchOption};
 ghost use Rattle.b3_check.specs.Sums.{is_bad_name, shows_name};
-ghost use Rattle.b3_check.specs.Tasks.{IsFit, IsFitItem, Task, bytes_of, len_of, name_asked, name_task, report_of, request_report, task_of};
+ghost use Rattle.b3_check.specs.Operands.{operands_left};
+ghost use Rattle.b3_check.specs.Tasks.{IsFit, IsFitItem, Task, bytes_of, len_of, name_asked, operand_task, report_of, request_report, task_of};
 
 use crate::message::Message;
+use crate::operands::{Operand, Operands};
 use crate::options::{CheckOptions, Form};
 use crate::shelf::NoContent;
 use b3_lines::{Line, holds_bad_character};
@@ -78,20 +80,22 @@ pub trait WorkItems<'a> {
 pub struct Names<'a> {
     pub alloc: Global,
     pub form: Form,
-    pub names: &'a [String],
+    pub operands: Operands<'a>,
 }
 
 impl<'a> WorkItems<'a> for Names<'a> {
-    ghost left = { λ work. map (λ name. name_task work.form (string_bytes name)) work.names.now };
+    ghost left = { λ work. map (operand_task work.form) (operands_left work.operands) };
 
     ghost fits = { λ _ _. true };
 
     fn next(&mut self) -> Result<Option<Item<'a>>, AllocError> {
-        let Some((name, rest)) = self.names.split_first() else {
-            return Ok(None);
+        let name = match self.operands.next() {
+            None => return Ok(None),
+            Some(Operand::NotText(list, number)) => {
+                return Ok(Some(Item::Say(Message::not_text(self.alloc, list, number)?)));
+            }
+            Some(Operand::Text(name)) => name,
         };
-        self.names = rest;
-        let name = name.as_str();
         if self.form.shows_name() && is_bad_name(name) {
             return Ok(Some(Item::Say(Message::failed(self.alloc, name, "bad name")?)));
         }

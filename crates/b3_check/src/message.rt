@@ -4,8 +4,8 @@ ghost use Rattle.std.specs.Prelude.{◌≡◌, ◌++◌, ◌^◌, ◌<◌, ◌�
 ghost use Rattle.std.specs.String.{string_bytes};
 ghost use Rattle.hex.specs.Hex.{encode_lower};
 ghost use Rattle.b3_lines.specs.Writing.{plain, tagged};
-ghost use Rattle.b3_check.specs.Sums.{complaint, digest_text, failed_report, is_bad_name, line_feed, name_report, shows_name};
-ghost use Rattle.b3_check.specs.Checks.{answer_as, err_report, line_reason, list_end, list_end_report, mismatches, refusal, refused_report, unless_silent, unread_list_report, verdict_on, verdict_report, verdict_text, verdict_words, warning, warning_report};
+ghost use Rattle.b3_check.specs.Sums.{complaint, digest_text, failed_report, is_bad_name, line_feed, name_report, not_text, shows_name};
+ghost use Rattle.b3_check.specs.Checks.{answer_as, err_report, list_end, list_end_report, refusal, refused_report, unless_silent, unnamed_list_report, unread_list_report, verdict_on, verdict_report, verdict_text, verdict_words, warning_report};
 ghost use Rattle.b3_check.specs.Tasks.{counted, bytes_of, len_of, report_of};
 
 use crate::judging::{Answer, Verdict, judge};
@@ -13,7 +13,8 @@ use crate::options::{CheckOptions, Form};
 use crate::prefixed;
 use crate::shelf::NoContent;
 use crate::tally::Tally;
-use b3_lines::{Line, LineFault, shown_name, write_line, write_tagged};
+use crate::texts::{complaint, line_reason, not_text, warning};
+use b3_lines::{Line, LineFault, write_line, write_tagged};
 use std::alloc::{AllocError, Global};
 
 /// A text for each sink, and what is counted.
@@ -37,6 +38,14 @@ impl Message {
         })
     }
 
+    /// The name of this number in a list of names is not text.
+    pub fn not_text(alloc: Global, list: &str, number: u64) -> Result<Message, AllocError>
+        ensures { IfOk result (λ message. report_of message ≡ failed_report list.now (not_text number)) }
+    {
+        let why = not_text(alloc, number)?;
+        Message::failed(alloc, list, why.as_str())
+    }
+
     /// A list cannot be read.
     pub fn unread_list(
         alloc: Global,
@@ -46,6 +55,21 @@ impl Message {
         ensures { IfOk result (λ message. report_of message ≡ unread_list_report options.now name.now) }
     {
         let text = complaint(alloc, name, "cannot read")?;
+        let none = Tally::none();
+        Ok(Message::on_err(alloc, options, text, Tally { lists: 1, ..none }))
+    }
+
+    /// The name of a list, which has this number in a list of names, is not text.
+    pub fn unnamed_list(
+        alloc: Global,
+        options: &CheckOptions,
+        names: &str,
+        number: u64,
+    ) -> Result<Message, AllocError>
+        ensures { IfOk result (λ message. report_of message ≡ unnamed_list_report options.now names.now number) }
+    {
+        let why = not_text(alloc, number)?;
+        let text = complaint(alloc, names, why.as_str())?;
         let none = Tally::none();
         Ok(Message::on_err(alloc, options, text, Tally { lists: 1, ..none }))
     }
@@ -204,24 +228,6 @@ fn bare_line(alloc: Global, digest: &[u8]) -> Result<Vec<u8>, AllocError>
     Ok(line)
 }
 
-// What is said of a name that has no line, with its line feed.
-fn complaint(alloc: Global, name: &str, why: &str) -> Result<Vec<u8>, AllocError>
-    ensures { IfOk result (λ line. line.items ≡ complaint name.now why.now) }
-{
-    let shown = match shown_name(alloc, name) {
-        Ok(shown) => shown,
-        Err(LineFault::Memory) => return Err(AllocError),
-        Err(_) => unreachable!(),
-    };
-    let mut text = Vec::new(alloc);
-    text.extend_from_slice(prefixed!("").as_bytes())?;
-    text.extend_from_slice(shown.as_bytes())?;
-    text.extend_from_slice(b": ")?;
-    text.extend_from_slice(why.as_bytes())?;
-    text.extend_from_slice(b"\n")?;
-    Ok(text)
-}
-
 // The answer to the name of a line, by its digest, or by why it has none.
 fn answer(digest: Result<&[u8], NoContent>) -> Answer
     requires { len_of digest ≡ 32 }
@@ -299,44 +305,4 @@ fn refusal(
     text.extend_from_slice(why.as_bytes())?;
     text.extend_from_slice(b"\n")?;
     Ok(text)
-}
-
-// Why the line of this number is refused.
-fn line_reason(alloc: Global, number: u64, reason: &str) -> Result<String, AllocError>
-    ensures { IfOk result (λ text. string_bytes text ≡ line_reason number reason.now) }
-{
-    let number = number.to_string(alloc)?;
-    let mut text = String::new(alloc);
-    text.push_str("line ")?;
-    text.push_str(number.as_str())?;
-    text.push_str(": ")?;
-    text.push_str(reason)?;
-    Ok(text)
-}
-
-// What is said where so many names and lines failed.
-fn warning(alloc: Global, failed: u64) -> Result<Vec<u8>, AllocError>
-    ensures { IfOk result (λ text. text.items ≡ warning failed) }
-{
-    let mut text = Vec::new(alloc);
-    if failed == 0 {
-        return Ok(text);
-    }
-    let count = failed.to_string(alloc)?;
-    text.extend_from_slice(prefixed!("WARNING: ").as_bytes())?;
-    text.extend_from_slice(count.as_bytes())?;
-    text.extend_from_slice(mismatches(failed).as_bytes())?;
-    text.extend_from_slice(b"\n")?;
-    Ok(text)
-}
-
-// The words after the number of names and lines that failed.
-fn mismatches(failed: u64) -> &'static str
-    ensures { result.now ≡ mismatches failed }
-{
-    if failed == 1 {
-        " computed checksum did NOT match"
-    } else {
-        " computed checksums did NOT match"
-    }
 }

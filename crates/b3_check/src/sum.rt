@@ -1,9 +1,11 @@
 //! The run that writes the digest of each name.
 
-ghost use Rattle.std.specs.Prelude.{◌≡◌, ◌+◌, ◌-◌, ◌^◌, ◌<◌, ◌≤◌, List, All, Some, map, string_bytes, length, IfOk, IfErr, if◌then◌else◌};
+ghost use Rattle.std.specs.Prelude.{◌≡◌, ◌+◌, ◌-◌, ◌^◌, ◌<◌, ◌≤◌, List, All, Some, map, length, IfOk, IfErr, if◌then◌else◌};
 ghost use Rattle.b3_check.specs.Contents.{Contents};
 ghost use Rattle.b3_check.specs.Faults.{is_write_fault};
 ghost use Rattle.b3_check.specs.Laws.{AsksDigests, File, IsThere, IsReliable, SumsRightly, WritesAll, Wrote, sums_of};
+ghost use Rattle.b3_check.specs.Operands.{operands_left};
+ghost use Rattle.b3_check.specs.Operands.Operand.{Text};
 ghost use Rattle.b3_check.specs.Options.{CanRun, limits_of};
 ghost use Rattle.b3_check.specs.Reading.{FindsMode};
 ghost use Rattle.b3_check.specs.Devices.{CanCount, Runs, loans, io_state_of};
@@ -16,6 +18,7 @@ use crate::devices::Devices;
 use crate::engine::Engine;
 use crate::fault::RunFault;
 use crate::items::Names;
+use crate::operands::Operands;
 use crate::options::{KeyChoice, SumOptions};
 use crate::output_range::OutputRange;
 use crate::pool::Pool;
@@ -29,8 +32,8 @@ use std::alloc::Global;
 use std::sync::Wait;
 use std::thread::Threads;
 
-/// Writes the digest of each name to `out`, and to `err` a complaint for each name that has none, and
-/// answers how many names are ok and how many failed.
+/// Writes the digest of each operand to `out`, and to `err` a complaint for each that has none, and
+/// answers how many are ok and how many failed.
 ///
 /// A digest is `length` bytes of the output from byte `seek` on (BLAKE3 (2020), 2.6). With the key
 /// `Keyed` the name `-` is read first, at most 33 bytes of it. A run fault ends the run.
@@ -38,59 +41,60 @@ pub fn run_sum<R: Threads + Wait + Sync, S: Shelf + Send + Sync, O: Sink, E: Sin
     rt: &R,
     alloc: Global,
     shelf: &mut S,
-    names: &[String],
+    operands: Operands<'_>,
     out: &mut O,
     err: &mut E,
     options: &SumOptions,
     gate: &G,
 ) -> Result<Tally, RunFault>
     requires options { CanRun options.now }
-    requires names { length names.now ≤ 2 ^ 30 }
-    requires raw { options.now.form ≡ Raw → length names.now ≡ 1 }
+    requires operands { length (operands_left operands) ≤ 2 ^ 30 }
+    requires raw { options.now.form ≡ Raw → length (operands_left operands) ≤ 1 }
     requires shelf_failures { S.failures shelf.old < 2 ^ 63 }
     requires out_failures { O.failures out.old < 2 ^ 63 }
     requires err_failures { E.failures err.old < 2 ^ 63 }
 
     // The texts and the tally are those of one list of answers, in which as many names were not read as
     // the shelf's count rose.
-    ensures ok { IfOk result (λ tally. Ran (sum_script options.now (map string_bytes names.now))
+    ensures ok { IfOk result (λ tally. Ran (sum_script options.now (operands_left operands.entry))
         (io_state S.Shelf O.Sink E.Sink shelf.old out.old err.old)
         (io_state S.Shelf O.Sink E.Sink shelf.new out.new err.new) tally) }
 
     // Over a shelf that fails nowhere else they are those of the contents.
-    ensures sure { IfOk result (λ tally. RanSurely (sum_script options.now (map string_bytes names.now))
+    ensures sure { IfOk result (λ tally. RanSurely (sum_script options.now (operands_left operands.entry))
         (io_state S.Shelf O.Sink E.Sink shelf.old out.old err.old)
         (io_state S.Shelf O.Sink E.Sink shelf.new out.new err.new) tally) }
 
     // Of files that are known it writes the line of each, or its digest, in order.
     ensures sums { (contents : Contents) (files : List File)
         → IsReliable (S.told shelf.old) (S.is_sure shelf.old) contents
-        → AsksDigests options.now → map string_bytes names.now ≡ map (λ file. file.name) files
+        → AsksDigests options.now → operands_left operands.entry ≡ map (λ file. Text file.name) files
         → All (IsThere contents) files → IfOk result (λ tally. Wrote (sums_of options.now.form files)
         (O.held out.old) (O.held out.new) (E.held err.old) (E.held err.new) tally) }
 
     // At a fault both sinks gained beginnings of the texts so far, and the fault has its cause.
     ensures fault { IfErr result (λ fault.
-        Stopped (limits_of options.now) (sum_script options.now (map string_bytes names.now))
+        Stopped (limits_of options.now) (sum_script options.now (operands_left operands.entry))
         (io_state S.Shelf O.Sink E.Sink shelf.old out.old err.old)
         (io_state S.Shelf O.Sink E.Sink shelf.new out.new err.new) fault) }
 
-    // Over a shelf that tells its contents, whatever fails: each name has the line of its content's digest, or a
+    // Over a shelf that tells its contents, whatever fails: each operand has the line of its content's digest, or a
     // complaint in its place, and no more is written; at a fault a beginning of that.
     ensures right { (contents : Contents) → S.told shelf.old ≡ Some contents
-        → SumsRightly contents options.now (map string_bytes names.now)
+        → SumsRightly contents options.now (operands_left operands.entry)
         (O.held out.old) (O.held out.new) (E.held err.old) (E.held err.new) result }
 
-    // Where the status is 0 each name has its line.
+    // Where the status is 0 each operand has its line.
     ensures all_written { (contents : Contents) → S.told shelf.old ≡ Some contents
-        → IfOk result (λ tally. status_of tally ≡ 0 → WritesAll contents options.now (map string_bytes names.now)
+        → IfOk result (λ tally. status_of tally ≡ 0 → WritesAll contents options.now (operands_left operands.entry)
         (O.held out.old) (O.held out.new) (E.held err.old) (E.held err.new)) }
 
     ensures write_fault { O.failures out.new + E.failures err.new
         ≡ O.failures out.old + E.failures err.old + (if is_write_fault result then 1 else 0) }
     ensures out_count { O.failures out.old ≤ O.failures out.new }
     ensures err_count { E.failures err.old ≤ E.failures err.new }
-    ensures shelf_count { S.failures shelf.new ≤ S.failures shelf.old + keys_asked options.now.key + length names.now }
+    ensures shelf_count { S.failures shelf.new
+        ≤ S.failures shelf.old + keys_asked options.now.key + length (operands_left operands.entry) }
     ensures told { S.told shelf.new ≡ S.told shelf.old }
     ensures still_sure { S.is_sure shelf.new ≡ S.is_sure shelf.old }
 {
@@ -101,26 +105,27 @@ pub fn run_sum<R: Threads + Wait + Sync, S: Shelf + Send + Sync, O: Sink, E: Sin
         gate,
     };
     let mut devices = Devices { shelf, out, err };
-    sum_names(alloc, pool, &mut devices, names, options)
+    sum_names(alloc, pool, &mut devices, operands, options)
 }
 
-// Writes the digest of each name.
+// Writes the digest of each operand.
 fn sum_names<R: Threads + Wait + Sync, G: Gate + Sync, S: Shelf + Send + Sync, O: Sink, E: Sink>(
     alloc: Global,
     pool: Pool<'_, R, G>,
     devices: &mut Devices<'_, '_, '_, S, O, E>,
-    names: &[String],
+    operands: Operands<'_>,
     options: &SumOptions,
 ) -> Result<Tally, RunFault>
     requires options { CanRun options.now }
-    requires names { length names.now ≤ 2 ^ 30 }
-    requires countable { CanCount (io_state_of S.Shelf O.Sink E.Sink devices.old) (1 + length names.now) }
-    ensures run { Runs (limits_of options.now) (sum_script options.now (map string_bytes names.now))
+    requires operands { length (operands_left operands) ≤ 2 ^ 30 }
+    requires countable { CanCount (io_state_of S.Shelf O.Sink E.Sink devices.old)
+        (1 + length (operands_left operands)) }
+    ensures run { Runs (limits_of options.now) (sum_script options.now (operands_left operands.entry))
         (io_state_of S.Shelf O.Sink E.Sink devices.old) (io_state_of S.Shelf O.Sink E.Sink devices.new) result }
-    ensures sure { IfOk result (λ tally. RanSurely (sum_script options.now (map string_bytes names.now))
+    ensures sure { IfOk result (λ tally. RanSurely (sum_script options.now (operands_left operands.entry))
         (io_state_of S.Shelf O.Sink E.Sink devices.old) (io_state_of S.Shelf O.Sink E.Sink devices.new) tally) }
     ensures shelf_count { S.failures devices.new.shelf.now
-        ≤ S.failures devices.old.shelf.now + keys_asked options.now.key + length names.now }
+        ≤ S.failures devices.old.shelf.now + keys_asked options.now.key + length (operands_left operands.entry) }
     ensures loans { loans devices.new ≡ loans devices.old }
 {
     let mode = find_mode(devices, &options.key)?;
@@ -133,7 +138,7 @@ fn sum_names<R: Threads + Wait + Sync, G: Gate + Sync, S: Shelf + Send + Sync, O
     let mut work = Names {
         alloc,
         form: options.form,
-        names,
+        operands,
     };
     engine.run(devices, &mut work)
 }

@@ -9,8 +9,8 @@ ghost use Rattle.b3_laws.specs.Runs.{report_of};
 
 use b3_board::OpenGate;
 use b3_check::{
-    CheckOptions, Form, KeyChoice, MemoryShelf, MemorySink, RunFault, Shelf, SumOptions, Tally,
-    run_check, run_sum,
+    CheckOptions, Form, KeyChoice, MemoryShelf, MemorySink, Operands, RunFault, Shelf, SumOptions,
+    Tally, run_check, run_sum,
 };
 use std::alloc::{AllocError, Global};
 use std::sync::Wait;
@@ -62,8 +62,9 @@ pub(crate) fn sum_names<R: Threads + Wait + Sync>(
         turns: TURNS,
         largest: LARGEST,
     };
+    let operands = Operands::given(names);
     let tally = run_sum(
-        rt, alloc, shelf, names, &mut out, &mut err, &options, &OpenGate,
+        rt, alloc, shelf, operands, &mut out, &mut err, &options, &OpenGate,
     )?;
     Ok(written_to(alloc, &out, &err, tally)?)
 }
@@ -97,8 +98,9 @@ pub(crate) fn check_list<R: Threads + Wait + Sync>(
         largest: LARGEST,
     };
     let lists = [list];
+    let operands = Operands::given(&lists);
     let tally = run_check(
-        rt, alloc, shelf, &lists, &mut out, &mut err, &options, &OpenGate,
+        rt, alloc, shelf, operands, &mut out, &mut err, &options, &OpenGate,
     )?;
     Ok(written_to(alloc, &out, &err, tally)?)
 }

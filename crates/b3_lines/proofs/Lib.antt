@@ -19,8 +19,8 @@ pub mod OneForm
 pub mod ReadBack
 -- what the answer of a call says where it is `Ok`
 pub mod Results
--- the lines of a text, and their ranges
-pub mod LinesOf
+-- the pieces of a text, and the ranges of its lines
+pub mod Pieces
 pub mod RangesFrom
 -- a line that was written is one line
 pub mod OneLine

@@ -5,11 +5,11 @@ use Rattle.std.proofs.lemmas.Bool.{both_ways, cases_eq, cases_lt, cond_both, fal
 use Rattle.std.proofs.lemmas.List.{get_or_past}
 use Rattle.std.proofs.lemmas.List.Folds.{list_any-append, list_any_at}
 use Rattle.hex.specs.Hex.{encode_lower, encode_with, lower_digits}
-use Rattle.b3_lines.specs.Lines.{HasNoLineFeed, lines_of}
+use Rattle.b3_lines.specs.Lines.{HasNo, lines_of}
 use Rattle.b3_lines.specs.Names.{escape, escaped, is_escaped}
 use Rattle.b3_lines.specs.Writing.{is_marked, mark, plain_text, spaces, tag_prefix, tag_separator, tagged_text}
 use Rattle.b3_lines.proofs.Escapes.{escape-itself, escaped-cons, escaped-nil}
-use Rattle.b3_lines.proofs.LinesOf.{lines_of-line, lines_of-nil}
+use Rattle.b3_lines.proofs.Pieces.{pieces_of-nil, pieces_of-piece}
 
 -- whether a line feed stands in a text
 abbrev has_feed : List ℕ → Bool
@@ -63,12 +63,12 @@ has_feed-encode_lower (b ∷ bytes) =
     or_from _ _ (is_feed-digit (b / 16)) (or_from _ _ (is_feed-digit (b % 16)) (has_feed-encode_lower bytes))
 
 -- a text of which the test finds none
-HasNoLineFeed-tested : (text : List ℕ) → has_feed text ≡ false → HasNoLineFeed text
+HasNoLineFeed-tested : (text : List ℕ) → has_feed text ≡ false → HasNo 10 text
 HasNoLineFeed-tested text none found =
     both_ways _ none (list_any_at (λ b. b == 10) text found.0 10 found.1 (eq-eqb _ 10 found.2))
 
 -- a plain line without its line feed, and a tagged one
-pub HasNoLineFeed-plain : (digest name : List ℕ) → HasNoLineFeed (plain_text digest name)
+pub HasNoLineFeed-plain : (digest name : List ℕ) → HasNo 10 (plain_text digest name)
 unfolding plain_text
 HasNoLineFeed-plain digest name =
     let digits = encode_lower digest in
@@ -77,7 +77,7 @@ HasNoLineFeed-plain digest name =
     (has_feed-append (mark name) digits (has_feed-mark name) (has_feed-encode_lower digest)) refl)
     (has_feed-escaped name))
 
-pub HasNoLineFeed-tagged : (digest name : List ℕ) → HasNoLineFeed (tagged_text digest name)
+pub HasNoLineFeed-tagged : (digest name : List ℕ) → HasNo 10 (tagged_text digest name)
 unfolding tagged_text
 HasNoLineFeed-tagged digest name =
     let front = mark name ++ tag_prefix ++ escaped name in
@@ -88,5 +88,5 @@ HasNoLineFeed-tagged digest name =
     (has_feed-encode_lower digest))
 
 -- what has no line feed is one line, when one ends it
-pub lines_of-one : (text : List ℕ) → HasNoLineFeed text → lines_of (text ++ 10 ∷ []) ≡ text ∷ []
-lines_of-one text none = lines_of-line text [] none ∙ ap (λ rest. text ∷ rest) lines_of-nil
+pub lines_of-one : (text : List ℕ) → HasNo 10 text → lines_of (text ++ 10 ∷ []) ≡ text ∷ []
+lines_of-one text none = pieces_of-piece 10 text [] none ∙ ap (λ rest. text ∷ rest) (pieces_of-nil 10)

@@ -5,7 +5,7 @@ use Rattle.std.proofs.lemmas.List.{drop_all, drop-drop, length-drop, length-take
 use Rattle.std.proofs.lemmas.Bool.{cases_eq, ne_eqb}
 use Rattle.std.proofs.lemmas.List.Elements.{All-cons, All-head, All-nil, All-tail}
 use Rattle.b3_lines.specs.Lines.{IsWithin, line_at, lines_of, prepended, ranges_from}
-use Rattle.b3_lines.proofs.LinesOf.{lines_of-cons, lines_of-feed, lines_of-nil}
+use Rattle.b3_lines.proofs.Pieces.{pieces_of-cons, pieces_of-end, pieces_of-nil}
 
 pub ranges_from-nil : (start : ℕ) → ranges_from start [] ≡ []
 unfolding ranges_from
@@ -23,7 +23,7 @@ pub ranges_from-at_end : (text : List ℕ) (start : ℕ) → length text ≤ sta
     → ranges_from start (lines_of (drop start text)) ≡ []
 ranges_from-at_end text start past =
     ap (λ t. ranges_from start (lines_of t)) (drop_all start text past)
-    ∙ ap (ranges_from start) lines_of-nil ∙ ranges_from-nil start
+    ∙ ap (ranges_from start) (pieces_of-nil 10) ∙ ranges_from-nil start
 
 -- the place of the first line, and those of the lines after it
 pub ranges_from-first : (text : List ℕ) (start n end next : ℕ) → end ≡ start + n → next ≡ end + 1
@@ -104,20 +104,20 @@ Stand-prepended text rest start b (line ∷ lines) below here behind stand =
     (subst (λ k. Stand text k lines) next first.behind)
 
 pub Stand-lines_of : (text rest : List ℕ) (start : ℕ) → drop start text ≡ rest → Stand text start (lines_of rest)
-Stand-lines_of text [] start here = rw lines_of-nil (Stand-nil text start)
+Stand-lines_of text [] start here = rw (pieces_of-nil 10) (Stand-nil text start)
 Stand-lines_of text (b ∷ rest) start here =
     let below : start < length text = omega (arith, ap length here, length-drop start text) in
     let behind = sym (drop-drop 1 start text) ∙ ap (drop 1) here in
     let stand = Stand-lines_of text rest (start + 1) behind in
     elim (cases_eq b 10) [
       | inl is ↦
-          let feed = ap (λ x. lines_of (x ∷ rest)) is ∙ lines_of-feed rest in
+          let feed = ap (λ x. lines_of (x ∷ rest)) is ∙ pieces_of-end 10 rest in
           let next : start + 1 ≡ start + 0 + 1 = omega arith in
           subst (Stand text start) (sym feed)
           (Stand-cons text start [] (lines_of rest) (omega arith) refl
           (subst (λ k. Stand text k (lines_of rest)) next stand))
       | inr other ↦
-          subst (Stand text start) (sym (lines_of-cons b rest (ne_eqb b 10 other)))
+          subst (Stand text start) (sym (pieces_of-cons 10 b rest (ne_eqb b 10 other)))
           (Stand-prepended text rest start b (lines_of rest) below here behind stand)
     ]
 

@@ -1,38 +1,47 @@
--- The lines of a text, and their ranges in it.
+-- The pieces of a text, each ended by a delimiter; its lines, which a line feed ends, and their ranges in it.
 use Rattle.std.specs.Prelude.{◌≡◌, ◌≢◌, ◌⊎◌, ◌≤◌, ℕ, ◌+◌, ◌==◌, if◌then◌else◌, List, [], ◌∷◌, ◌++◌, length, slice_range, All, Contains}
 use Rattle.std.specs.List.{flat_map}
 
--- a piece has no line feed
-abbrev pub HasNoLineFeed : List ℕ → Type 0
-HasNoLineFeed piece = ¬ Contains piece 10
+-- a byte does not stand in a piece
+abbrev pub HasNo : ℕ → List ℕ → Type 0
+HasNo b piece = ¬ Contains piece b
 
--- what pieces give when each is followed by a line feed
-abbrev pub terminated : List (List ℕ) → List ℕ
-terminated pieces = flat_map (λ piece. piece ++ 10 ∷ []) pieces
+-- what pieces give when each is followed by the delimiter
+abbrev pub terminated : ℕ → List (List ℕ) → List ℕ
+terminated delimiter pieces = flat_map (λ piece. piece ++ delimiter ∷ []) pieces
 
--- pieces give a text when each is followed by a line feed but the last, which is not empty
-pub record EndsUnterminated (text : List ℕ) (pieces : List (List ℕ)) : Type 0 where
+-- pieces give a text when each is followed by the delimiter but the last, which is not empty
+pub record EndsUnterminated (delimiter : ℕ) (text : List ℕ) (pieces : List (List ℕ)) : Type 0 where
   pub before : List (List ℕ)
   pub last : List ℕ
   pub pieces_are : pieces ≡ before ++ last ∷ []
   pub is_some : last ≢ []
-  pub text_is : text ≡ terminated before ++ last
+  pub text_is : text ≡ terminated delimiter before ++ last
 
--- the lines of a text: the pieces without line feed that give the text when each is followed by a
--- line feed, the last perhaps by none if it is not empty
-pub record AreLines (text : List ℕ) (pieces : List (List ℕ)) : Type 0 where
-  pub without_line_feed : All HasNoLineFeed pieces
-  pub give : (text ≡ terminated pieces) ⊎ EndsUnterminated text pieces
+-- the pieces of a text: they hold no delimiter, and give the text when each is followed by one, the last perhaps by
+-- none if it is not empty
+pub record ArePieces (delimiter : ℕ) (text : List ℕ) (pieces : List (List ℕ)) : Type 0 where
+  pub without : All (HasNo delimiter) pieces
+  pub give : (text ≡ terminated delimiter pieces) ⊎ EndsUnterminated delimiter text pieces
 
--- a byte but a line feed in front of the lines after it
+-- the lines of a text: the pieces that a line feed ends
+abbrev pub AreLines : List ℕ → List (List ℕ) → Type 0
+AreLines text pieces = ArePieces 10 text pieces
+
+-- a byte but a delimiter in front of the pieces after it
 abbrev pub prepended : ℕ → List (List ℕ) → List (List ℕ)
 prepended b [] = (b ∷ []) ∷ []
-prepended b (line ∷ lines) = (b ∷ line) ∷ lines
+prepended b (piece ∷ pieces) = (b ∷ piece) ∷ pieces
+
+-- the pieces of a text, computed
+unfoldable pub pieces_of : ℕ → List ℕ → List (List ℕ)
+pieces_of delimiter [] = []
+pieces_of delimiter (b ∷ text) =
+    if b == delimiter then [] ∷ pieces_of delimiter text else prepended b (pieces_of delimiter text)
 
 -- the lines of a text, computed
-unfoldable pub lines_of : List ℕ → List (List ℕ)
-lines_of [] = []
-lines_of (b ∷ text) = if b == 10 then [] ∷ lines_of text else prepended b (lines_of text)
+abbrev pub lines_of : List ℕ → List (List ℕ)
+lines_of text = pieces_of 10 text
 
 -- the ranges of lines that stand one after the other from `start` on, with a line feed between two
 unfoldable pub ranges_from : ℕ → List (List ℕ) → List (ℕ × ℕ)

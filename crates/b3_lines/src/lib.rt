@@ -16,7 +16,7 @@ mod tagging;
 mod writing;
 
 pub use fault::LineFault;
-pub use line_ranges::Lines;
+pub use line_ranges::{Lines, first_piece};
 pub use names::holds_bad_character;
 pub use reading::{Line, lines, read_line};
 pub use tagging::write_tagged;

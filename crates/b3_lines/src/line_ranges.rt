@@ -1,8 +1,8 @@
-//! The lines of a text, as ranges of its bytes.
+//! The pieces of a text, and the ranges of its lines.
 
-ghost use Rattle.std.specs.Prelude.{◌≡◌, ℕ, ◌+◌, ◌<◌, ◌≤◌, List, ◌∷◌, length, take, drop};
+ghost use Rattle.std.specs.Prelude.{◌≡◌, ℕ, ◌+◌, ◌<◌, ◌≤◌, List, [], ◌∷◌, IfSome, MatchOption, length, take, drop};
 ghost use Rattle.std.specs.Iterator.{YieldsFirst, item_count};
-ghost use Rattle.b3_lines.specs.Lines.{line_ranges, lines_of, ranges_from};
+ghost use Rattle.b3_lines.specs.Lines.{ArePieces, line_ranges, lines_of, pieces_of, ranges_from};
 
 use memchr::memchr;
 use std::marker::Model;
@@ -43,17 +43,38 @@ impl<'t> Iterator for Lines<'t> {
         if start >= self.text.len() {
             return None;
         }
-        let end = start + first_line_length(&self.text[start..]);
+        let end = start + first_piece_length(&self.text[start..], b'\n');
         self.start = end + 1;
         Some((start, end))
     }
 }
 
-/// How long the first line of a text is.
-fn first_line_length(text: &[u8]) -> usize
+/// How long the first piece of a text is, where this byte ends each piece but perhaps the last.
+fn first_piece_length(text: &[u8], delimiter: u8) -> usize
     requires { 0 < length text.now }
     ensures within { result ≤ length text.now }
-    ensures first { lines_of text.now ≡ take result text.now ∷ lines_of (drop (result + 1) text.now) }
+    ensures first { pieces_of delimiter text.now
+        ≡ take result text.now ∷ pieces_of delimiter (drop (result + 1) text.now) }
 {
-    memchr(b'\n', text).unwrap_or(text.len())
+    memchr(delimiter, text).unwrap_or(text.len())
+}
+
+/// The first piece of a text and what stands after its delimiter, where this byte ends each piece but perhaps the
+/// last. An empty text has no piece. It takes no memory.
+pub fn first_piece(text: &[u8], delimiter: u8) -> Option<(&[u8], &[u8])>
+    ensures first { MatchOption result (pieces_of delimiter text.now ≡ []) (λ parts.
+        pieces_of delimiter text.now ≡ parts.0.now ∷ pieces_of delimiter parts.1.now) }
+    ensures fewer { IfSome result (λ parts. length parts.1.now < length text.now) }
+    ensures count { length (pieces_of delimiter text.now) ≤ length text.now }
+
+    // What `pieces_of` gives is the pieces of the text, and nothing else is.
+    ensures are_pieces { ArePieces delimiter text.now (pieces_of delimiter text.now) }
+    ensures no_other { (pieces : List (List ℕ)) → ArePieces delimiter text.now pieces
+        → pieces ≡ pieces_of delimiter text.now }
+{
+    if text.is_empty() {
+        return None;
+    }
+    let (piece, rest) = text.split_at(first_piece_length(text, delimiter));
+    Some((piece, &rest[rest.len().min(1)..]))
 }

@@ -5,7 +5,7 @@ mod memory;
 mod read;
 mod written;
 
-use b3_lines::{Line, LineFault, Lines, lines, read_line};
+use b3_lines::{Line, LineFault, Lines, first_piece, lines, read_line};
 use hex::FromHex;
 use std::alloc::{AllocError, Global};
 use std::process::Abort;
@@ -50,6 +50,21 @@ fn assert_places(rt: &impl Abort, text: &[u8], places: &[(usize, usize)]) {
     }
     assert_next(rt, &mut left, None, text);
     assert_next(rt, &mut left, None, text);
+}
+
+#[test]
+fn first_pieces(rt: HostRuntime) {
+    let rows: [(&[u8], Option<(&[u8], &[u8])>); 6] = [
+        (b"", None),
+        (b"\0", Some((b"", b""))),
+        (b"a", Some((b"a", b""))),
+        (b"a\0", Some((b"a", b""))),
+        (b"a\n\0b", Some((b"a\n", b"b"))),
+        (b"\0\0", Some((b"", b"\0"))),
+    ];
+    for (text, parts) in &rows {
+        assert_eq!(rt; first_piece(text, 0), *parts, "of {text:?}");
+    }
 }
 
 #[test]

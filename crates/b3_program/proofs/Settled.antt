@@ -3,7 +3,7 @@ use Rattle.std.proofs.Common.{◌≡◌, ◌≢◌, ℕ, ◌+◌, ◌-◌, ◌^�
 use Rattle.std.specs.Prelude.{vec_len}
 use Rattle.std.specs.Option.{option_map}
 use Rattle.std.proofs.lemmas.Bool.{ltb-false}
-use Rattle.b3_program.specs.Usages.{check_excludes, excluded_by_check, excluded_by_tag, first_given, hashes_input, refusal_for, seeks_past_end, tag_excludes, usage_text}
+use Rattle.b3_program.specs.Usages.{check_excludes, excluded_by_check, excluded_by_tag, first_given, reads_input, refusal_for, seeks_past_end, tag_excludes, usage_text}
 use Rattle.b3_program.specs.declared.usage.Usage.TheVariants.{KeyNeedsFiles, QuietAlone, RawOne, SeekPastEnd, TwoKeys}
 use Rattle.b3_program.specs.declared.words.Words.{Words}
 
@@ -34,7 +34,7 @@ in_output_from_none words none =
     let two = past_first (words.keyed && is_some words.derive_key) (Some (usage_text TwoKeys)) _ (λ _ e. cc e) one in
     let three = past_first (words.quiet && not words.check) (Some (usage_text QuietAlone)) _ (λ _ e. cc e) two in
     let four = past_first (words.raw && nat_lt 1 (vec_len words.files)) (Some (usage_text RawOne)) _ (λ _ e. cc e) three in
-    let five = past_first (words.keyed && hashes_input words) (Some (usage_text KeyNeedsFiles)) _ (λ _ e. cc e) four in
+    let five = past_first (words.keyed && reads_input words) (Some (usage_text KeyNeedsFiles)) _ (λ _ e. cc e) four in
     let six = past_first _ _ _ (excluded-some words.tag tagged tag_excludes) five in
     ltb-false (2 ^ 64 - 1) (unwrap_or words.seek 0 + unwrap_or words.length 32)
     (past-false (seeks_past_end words) (Some (usage_text SeekPastEnd)) _ (λ e. cc e) six)

@@ -6,4 +6,5 @@ pub mod Usages
 pub mod Tasks
 pub mod Said
 pub mod Stops
+pub mod Lists
 pub mod Programs

@@ -13,3 +13,8 @@ pub record IsSaid (before after : SinkState) (text : List ℕ) (whole : Bool) : 
   pub count : after.failures ≡ before.failures + (if whole then 0 else 1)
   pub all : whole ≡ true → Appends before.held after.held text
   pub part : whole ≡ false → GainsBeginning before.held after.held text
+
+-- a line of this text is said, or a beginning of it
+pub record SaysLine (text : List ℕ) (before after : SinkState) : Type 0 where
+  pub whole : Bool
+  pub said : IsSaid before after (line_of text) whole

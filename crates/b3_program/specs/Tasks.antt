@@ -7,8 +7,11 @@ use Rattle.b3_check.specs.declared.options.Form.TheVariants.{Named, Bare, Raw, T
 use Rattle.b3_check.specs.declared.options.KeyChoice.{KeyChoice}
 use Rattle.b3_check.specs.declared.options.KeyChoice.TheVariants.{Plain, Keyed, Derive}
 use Rattle.b3_check.specs.declared.options.SumOptions.{SumOptions}
+use Rattle.b3_program.specs.declared.task.Job.{Job}
+use Rattle.b3_program.specs.declared.task.Job.TheVariants.{Sum, Check}
+use Rattle.b3_program.specs.declared.task.Names.{Names}
+use Rattle.b3_program.specs.declared.task.Names.TheVariants.{Files, InList}
 use Rattle.b3_program.specs.declared.task.Task.{Task}
-use Rattle.b3_program.specs.declared.task.Task.TheVariants.{Sum, Check}
 use Rattle.b3_program.specs.declared.words.Words.{Words}
 
 abbrev pub key_of : Words → KeyChoice
@@ -50,6 +53,13 @@ check_options words = record {
   largest = 2 ^ 30;
 }
 
+abbrev pub job_for : Words → Job
+job_for words = if words.check then Check (check_options words) else Sum (sum_options words)
+
+-- the files, or the list in which their names are
+abbrev pub names_for : Words → Names
+names_for words = option_map_or InList words.files0_from (Files words.files)
+
 -- the task of words that are not refused
 abbrev pub task_for : Words → Task
-task_for words = if words.check then Check (check_options words) words.files else Sum (sum_options words) words.files
+task_for words = record { job = job_for words; names = names_for words }

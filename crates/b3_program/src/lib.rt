@@ -5,6 +5,8 @@
 mod disk;
 mod files;
 mod input;
+mod jobs;
+mod lists;
 mod lookup;
 mod memory_disk;
 mod outputs;
@@ -25,6 +27,6 @@ pub use outputs::OutputSink;
 pub use real_disk::{INPUT_PATHS, InputPaths, RealDisk, RealFile, RealInput};
 pub use run::run_words;
 pub use stop::Stop;
-pub use task::{Task, settle};
+pub use task::{Job, Names, Task, settle};
 pub use usage::Usage;
 pub use words::Words;

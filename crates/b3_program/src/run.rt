@@ -1,16 +1,17 @@
-ghost use Rattle.std.specs.Prelude.{◌≡◌, ◌+◌, ◌^◌, ◌<◌, ◌≤◌, None, Some, IfOk, IfErr, map, string_bytes};
+ghost use Rattle.std.specs.Prelude.{◌≡◌, ◌^◌, ◌<◌, None, Some, IfOk, map, string_bytes};
 ghost use Rattle.b3_check.specs.Contents.{Contents};
-ghost use Rattle.b3_check.specs.Runs.{Ran, RanSurely, Stopped, io_state};
-ghost use Rattle.b3_program.specs.Programs.{CanDo, DoesTask, Ends, EndsRightly, IsDone, limits_for, names_of, script_of};
+ghost use Rattle.b3_check.specs.Runs.{io_state};
+ghost use Rattle.b3_program.specs.Programs.{CanDo, CanTake, CanTakeNames, DoesJob, DoesTask, Ends, EndsRightly, IsDone, names_of, operands_of};
 ghost use Rattle.b3_program.specs.Tasks.{task_for};
 ghost use Rattle.b3_program.specs.Usages.{refusal_for};
 
-use crate::say::say_line;
-use crate::stop::{FAILURE, USAGE};
-use crate::task::{Task, settle};
+use crate::jobs::run_job;
+use crate::lists::run_in_list;
+use crate::say::{fail, refuse};
+use crate::task::{Job, Names, Task, settle};
 use crate::words::Words;
 use b3_board::Gate;
-use b3_check::{INPUT_NAME, RunFault, Shelf, Sink, Tally, run_check, run_sum};
+use b3_check::{INPUT_NAME, Operands, RunFault, Shelf, Sink};
 use std::alloc::{AllocError, Global};
 use std::sync::Wait;
 use std::thread::Threads;
@@ -33,7 +34,8 @@ pub fn run_words<
         (io_state S.Shelf O.Sink E.Sink shelf.new out.new err.new) result }
 
     // Over a shelf that tells its contents, whatever fails: each name has the line of its content's digest or a
-    // complaint in its place, or each line of each list the right verdict; at a fault a beginning of that.
+    // complaint in its place, or each line of each list the right verdict; at a fault a beginning of that. Names in a
+    // list are those of its content, unless there is a complaint alone.
     ensures right { (contents : Contents) → S.told shelf.old ≡ Some contents → refusal_for words ≡ None
         → EndsRightly contents (task_for words)
         (O.held out.old) (O.held out.new) (E.held err.old) (E.held err.new) result }
@@ -44,11 +46,7 @@ pub fn run_words<
 {
     match settle(words) {
         Ok(task) => run_task(rt, alloc, shelf, task, out, err, gate),
-        Err(usage) => {
-            let (text, option) = usage.text();
-            say_line(err, text, option);
-            USAGE
-        }
+        Err(usage) => refuse(err, &usage),
     }
 }
 
@@ -62,7 +60,8 @@ fn run_task<R: Threads + Wait + Sync, S: Shelf + Send + Sync, O: Sink, E: Sink, 
     err: &mut E,
     gate: &G,
 ) -> u8
-    requires task { CanDo task }
+    requires job { CanDo task.job }
+    requires names { CanTakeNames task.job task.names }
     requires shelf_failures { S.failures shelf.old < 2 ^ 63 }
     requires out_failures { O.failures out.old < 2 ^ 63 }
     requires err_failures { E.failures err.old < 2 ^ 63 }
@@ -70,49 +69,45 @@ fn run_task<R: Threads + Wait + Sync, S: Shelf + Send + Sync, O: Sink, E: Sink, 
         (io_state S.Shelf O.Sink E.Sink shelf.old out.old err.old)
         (io_state S.Shelf O.Sink E.Sink shelf.new out.new err.new) result }
 {
-    match run_engine(rt, alloc, shelf, task, out, err, gate) {
-        Ok(tally) => tally.status(),
-        Err(fault) => {
-            say_line(err, fault.text(), "");
-            FAILURE
-        }
+    let Task { job, names } = task;
+    match names {
+        Names::Files(files) => run_over_files(rt, alloc, shelf, &job, files, out, err, gate),
+        Names::InList(list) => run_in_list(rt, alloc, shelf, &job, list.as_str(), out, err, gate),
     }
 }
 
-// Runs the engine of a task.
-fn run_engine<R: Threads + Wait + Sync, S: Shelf + Send + Sync, O: Sink, E: Sink, G: Gate + Sync>(
+// Does a job over files, or over standard input where there are none, and answers the status.
+fn run_over_files<
+    R: Threads + Wait + Sync,
+    S: Shelf + Send + Sync,
+    O: Sink,
+    E: Sink,
+    G: Gate + Sync,
+>(
     rt: &R,
     alloc: Global,
     shelf: &mut S,
-    task: Task,
+    job: &Job,
+    files: Vec<String>,
     out: &mut O,
     err: &mut E,
     gate: &G,
-) -> Result<Tally, RunFault>
-    requires task { CanDo task }
+) -> u8
+    requires job { CanDo job.now }
+    requires files { CanTake job.now (operands_of files.items) }
     requires shelf_failures { S.failures shelf.old < 2 ^ 63 }
     requires out_failures { O.failures out.old < 2 ^ 63 }
     requires err_failures { E.failures err.old < 2 ^ 63 }
-    ensures ok { IfOk result (λ tally. Ran (script_of task)
+    ensures { DoesJob job.now (operands_of files.items)
         (io_state S.Shelf O.Sink E.Sink shelf.old out.old err.old)
-        (io_state S.Shelf O.Sink E.Sink shelf.new out.new err.new) tally) }
-    ensures sure { IfOk result (λ tally. RanSurely (script_of task)
-        (io_state S.Shelf O.Sink E.Sink shelf.old out.old err.old)
-        (io_state S.Shelf O.Sink E.Sink shelf.new out.new err.new) tally) }
-    ensures fault { IfErr result (λ fault. Stopped (limits_for task) (script_of task)
-        (io_state S.Shelf O.Sink E.Sink shelf.old out.old err.old)
-        (io_state S.Shelf O.Sink E.Sink shelf.new out.new err.new) fault) }
-    ensures err_count { E.failures err.new ≤ E.failures err.old + 1 }
+        (io_state S.Shelf O.Sink E.Sink shelf.new out.new err.new) result }
 {
-    match task {
-        Task::Sum(options, files) => {
-            let names = names_of(alloc, files)?;
-            run_sum(rt, alloc, shelf, names.as_slice(), out, err, &options, gate)
+    match names_of(alloc, files) {
+        Ok(names) => {
+            let operands = Operands::given(names.as_slice());
+            run_job(rt, alloc, shelf, job, operands, out, err, gate)
         }
-        Task::Check(options, files) => {
-            let lists = names_of(alloc, files)?;
-            run_check(rt, alloc, shelf, lists.as_slice(), out, err, &options, gate)
-        }
+        Err(AllocError) => fail(err, RunFault::Memory),
     }
 }
 

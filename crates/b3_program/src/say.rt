@@ -2,11 +2,15 @@
 
 ghost use Rattle.std.specs.Prelude.{◌≡◌, ◌+◌, ◌-◌, ◌^◌, ◌<◌, ◌++◌, OnOk, OnErr, is_err, if◌then◌else◌};
 ghost use Rattle.std.specs.Io.KnownBytes.{Appends};
+ghost use Rattle.b3_check.specs.Faults.{fault_text};
 ghost use Rattle.b3_check.specs.Runs.{sink_state};
 ghost use Rattle.b3_check.specs.Sinks.{GainsBeginning};
-ghost use Rattle.b3_program.specs.Said.{IsSaid, line_of};
+ghost use Rattle.b3_program.specs.Said.{IsSaid, SaysLine, line_of};
+ghost use Rattle.b3_program.specs.Usages.{usage_text};
 
-use b3_check::{Sink, SinkFailed, write_all};
+use crate::stop::{FAILURE, USAGE};
+use crate::usage::Usage;
+use b3_check::{RunFault, Sink, SinkFailed, write_all};
 
 /// Says a text, and answers whether the sink took all of it.
 pub fn say<K: Sink>(sink: &mut K, text: &str) -> bool
@@ -22,6 +26,27 @@ pub fn say_line<K: Sink>(sink: &mut K, text: &str, more: &str) -> bool
     ensures { IsSaid (sink_state K.Sink sink.old) (sink_state K.Sink sink.new) (line_of (text.now ++ more.now)) result }
 {
     write_both(sink, text, more).is_ok()
+}
+
+/// Says why what is asked for cannot be done, and answers the status.
+pub fn refuse<K: Sink>(err: &mut K, usage: &Usage) -> u8
+    requires { K.failures err.old < 2 ^ 64 - 1 }
+    ensures said { SaysLine (usage_text usage.now) (sink_state K.Sink err.old) (sink_state K.Sink err.new) }
+    ensures status { result ≡ 2 }
+{
+    let (text, option) = usage.text();
+    say_line(err, text, option);
+    USAGE
+}
+
+/// Says the line of a fault, and answers the status.
+pub fn fail<K: Sink>(err: &mut K, fault: RunFault) -> u8
+    requires { K.failures err.old < 2 ^ 64 - 1 }
+    ensures said { SaysLine (fault_text fault) (sink_state K.Sink err.old) (sink_state K.Sink err.new) }
+    ensures status { result ≡ 1 }
+{
+    say_line(err, fault.text(), "");
+    FAILURE
 }
 
 // Writes a text, what follows it and a line feed.

@@ -1,9 +1,10 @@
 ghost use Rattle.std.specs.Prelude.{◌≡◌, None, Some, IfErr, IfOk};
 ghost use Rattle.std.specs.List.{list_any};
-ghost use Rattle.std.specs.Option.{option_map};
-ghost use Rattle.b3_program.specs.Tasks.{check_options, form_of, key_of, sum_options, task_for, workers_of};
-ghost use Rattle.b3_program.specs.declared.task.Task.TheVariants.{Sum};
-ghost use Rattle.b3_program.specs.Usages.{excluded_by_check, excluded_by_tag, first_given, hashes_input, is_input, refusal_for, refusal_for_output, refusal_without_check, seeks_past_end, usage_text};
+ghost use Rattle.std.specs.Option.{option_map, option_map_or};
+ghost use Rattle.b3_program.specs.Tasks.{check_options, form_of, key_of, names_for, sum_options, task_for, workers_of};
+ghost use Rattle.b3_program.specs.declared.task.Job.TheVariants.{Sum, Check};
+ghost use Rattle.b3_program.specs.declared.task.Names.TheVariants.{Files, InList};
+ghost use Rattle.b3_program.specs.Usages.{excluded_by_check, excluded_by_tag, first_given, is_input, is_input_meant, reads_input, refusal_for, refusal_for_output, refusal_of_files, refusal_without_check, seeks_past_end, usage_text};
 
 use crate::usage::Usage;
 use crate::words::Words;
@@ -24,13 +25,29 @@ const TURNS: u64 = 1 << 40;
 /// How many bytes a list may have.
 const LARGEST: u64 = 1 << 30;
 
-/// What a call asks for, with the files as they were given.
+/// What is done over files.
 #[derive(Debug, Drop)]
-pub enum Task {
-    /// To write the digests of files.
-    Sum(SumOptions, Vec<String>),
-    /// To check the lists in files.
-    Check(CheckOptions, Vec<String>),
+pub enum Job {
+    /// Their digests are written.
+    Sum(SumOptions),
+    /// The lists in them are checked.
+    Check(CheckOptions),
+}
+
+/// Where the names of the files are.
+#[derive(Debug, Drop)]
+pub enum Names {
+    /// They were given.
+    Files(Vec<String>),
+    /// They are in the list of this name.
+    InList(String),
+}
+
+/// What a call asks for.
+#[derive(Debug, Drop)]
+pub struct Task {
+    pub job: Job,
+    pub names: Names,
 }
 
 /// Decides what the words of a call ask for. It takes no memory.
@@ -42,8 +59,7 @@ pub fn settle(words: Words) -> Result<Task, Usage>
         return Err(usage);
     }
     Ok(if words.check {
-        let options = check_options(&words);
-        Task::Check(options, words.files)
+        check_task(words)
     } else {
         sum_task(words)
     })
@@ -67,7 +83,7 @@ fn refusal(words: &Words) -> Option<Usage>
     if words.raw && words.files.len() > 1 {
         return Some(Usage::RawOne);
     }
-    if words.keyed && hashes_input(words) {
+    if words.keyed && reads_input(words) {
         return Some(Usage::KeyNeedsFiles);
     }
     refusal_of_output(words)
@@ -86,7 +102,7 @@ fn refusal_of_output(words: &Words) -> Option<Usage>
         return Some(Usage::SeekPastEnd);
     }
     if words.check {
-        return None;
+        return refusal_of_files(words);
     }
     refusal_without_check(words)
 }
@@ -104,8 +120,18 @@ fn refusal_without_check(words: &Words) -> Option<Usage>
     } else if words.warn {
         Some(Usage::WarnAlone)
     } else {
-        None
+        refusal_of_files(words)
     }
+}
+
+// The refusal of files beside a list of names.
+fn refusal_of_files(words: &Words) -> Option<Usage>
+    ensures { option_map usage_text result ≡ refusal_of_files words.now }
+{
+    if words.files0_from.is_some() && !words.files.is_empty() {
+        return Some(Usage::ListTakesNoFile);
+    }
+    None
 }
 
 // The first option that is given and goes with no check.
@@ -156,11 +182,21 @@ fn seeks_past_end(words: &Words) -> bool
         .is_none()
 }
 
-// Whether standard input is to be hashed.
-fn hashes_input(words: &Words) -> bool
-    ensures { result ≡ hashes_input words.now }
+// Whether standard input is to be read for more than a key.
+fn reads_input(words: &Words) -> bool
+    ensures { result ≡ reads_input words.now }
 {
-    words.files.is_empty() || includes_input(words.files.as_slice())
+    is_input_meant(words) || includes_input(words.files.as_slice())
+}
+
+// Whether standard input is the list of names, or there is neither a list nor a file.
+fn is_input_meant(words: &Words) -> bool
+    ensures { result ≡ is_input_meant words.now }
+{
+    match &words.files0_from {
+        Some(list) => list.as_str() == INPUT_NAME,
+        None => words.files.is_empty(),
+    }
 }
 
 // Whether standard input is one of the files.
@@ -185,8 +221,33 @@ fn check_options(words: &Words) -> CheckOptions
     }
 }
 
+// The files, or the list in which their names are.
+fn names_from(list: Option<String>, files: Vec<String>) -> Names
+    ensures { result ≡ option_map_or InList list (Files files) }
+{
+    match list {
+        Some(list) => Names::InList(list),
+        None => Names::Files(files),
+    }
+}
+
+fn check_task(words: Words) -> Task
+    ensures { result ≡ record { job = Check (check_options words); names = names_for words } }
+{
+    let job = Job::Check(check_options(&words));
+    let Words {
+        files0_from,
+        files,
+        ..
+    } = words;
+    Task {
+        job,
+        names: names_from(files0_from, files),
+    }
+}
+
 fn sum_task(words: Words) -> Task
-    ensures { result ≡ Sum (sum_options words) words.files }
+    ensures { result ≡ record { job = Sum (sum_options words); names = names_for words } }
 {
     let form = form(&words);
     let workers = workers(words.num_threads);
@@ -195,6 +256,7 @@ fn sum_task(words: Words) -> Task
         derive_key,
         length,
         seek,
+        files0_from,
         files,
         ..
     } = words;
@@ -212,7 +274,10 @@ fn sum_task(words: Words) -> Task
         turns: TURNS,
         largest: LARGEST,
     };
-    Task::Sum(options, files)
+    Task {
+        job: Job::Sum(options),
+        names: names_from(files0_from, files),
+    }
 }
 
 fn form(words: &Words) -> Form

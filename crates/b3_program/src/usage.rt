@@ -27,6 +27,8 @@ pub enum Usage {
     StrictAlone,
     /// `--warn` where nothing is checked.
     WarnAlone,
+    /// Files beside a list of names.
+    ListTakesNoFile,
 }
 
 impl Usage {
@@ -51,6 +53,7 @@ impl Usage {
             Usage::StatusAlone => (prefixed!("--status needs --check"), ""),
             Usage::StrictAlone => (prefixed!("--strict needs --check"), ""),
             Usage::WarnAlone => (prefixed!("--warn needs --check"), ""),
+            Usage::ListTakesNoFile => (prefixed!("--files0-from takes no FILE"), ""),
         }
     }
 }

@@ -33,6 +33,8 @@ pub struct Words {
     pub warn: bool,
     /// How many threads hash.
     pub num_threads: Option<u16>,
+    /// The list in which the names of the files are.
+    pub files0_from: Option<String>,
     /// The files, as they were given.
     pub files: Vec<String>,
     ghost length_in_range: { ForSome length (λ n. n ≤ max_output_len) },

@@ -9,7 +9,7 @@ ghost use Rattle.b3_program.specs.MemoryDisks.{content_among};
 ghost use Rattle.b3_program_tests.specs.InMemory.{IsSummed};
 
 use b3_board::OpenGate;
-use b3_check::{Form, KeyChoice, MemorySink, RunFault, Sink, SumOptions, Tally, run_sum};
+use b3_check::{Form, KeyChoice, MemorySink, Operands, RunFault, Sink, SumOptions, Tally, run_sum};
 use b3_program::{FileShelf, MemoryDisk, MemoryFile, NamedFile};
 use std::alloc::{AllocError, Global};
 use std::sync::Wait;
@@ -46,7 +46,7 @@ pub fn sum_one<R: Threads + Wait + Sync>(
         rt,
         alloc,
         &mut shelf,
-        names.as_slice(),
+        Operands::given(names.as_slice()),
         out,
         err,
         &options,

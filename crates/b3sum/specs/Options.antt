@@ -41,7 +41,11 @@ output =
     ∷ []
 
 abbrev pub running : List Rule
-running = number (codes "num-threads") (Signed (pos 0) (pos 65535)) ∷ flag (codes "no-mmap") ∷ []
+running =
+    option (codes "files0-from")
+    ∷ number (codes "num-threads") (Signed (pos 0) (pos 65535))
+    ∷ flag (codes "no-mmap")
+    ∷ []
 
 -- all words that are no option, in their order
 abbrev pub files : Rule

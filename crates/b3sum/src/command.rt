@@ -21,6 +21,8 @@ Examples:
                               check those of them that are there
   b3sum --keyed FILE < KEY    write a digest keyed by the 32 bytes of KEY
   b3sum --seek 32 FILE        write the 32 bytes of output after the digest
+  find . -type f -print0 | b3sum --files0-from -
+                              write a list of the digests of all files here
 
 The status is 0, or 1 where a file cannot be read, a digest differs, a line is
 malformed, a list fails as a whole or the run is cut short, or 2 where the words
@@ -85,7 +87,10 @@ fn with_output<'a>(command: Command<'a>, alloc: Global) -> Result<Command<'a>, A
 fn with_running<'a>(command: Command<'a>, alloc: Global) -> Result<Command<'a>, AllocError>
     ensures { IfOk result (λ more. app_of more ≡ spec.with_rules (app_of command.entry) spec.running) }
 {
-    command.arg(num_threads(alloc))?.arg(no_mmap(alloc))
+    command
+        .arg(files0_from(alloc))?
+        .arg(num_threads(alloc))?
+        .arg(no_mmap(alloc))
 }
 
 fn check<'a>(alloc: Global) -> Arg<'a>
@@ -216,6 +221,15 @@ fn tag<'a>(alloc: Global) -> Arg<'a>
         "tag",
         "Write each line as BLAKE3 (FILE) = DIGEST; --check reads both forms",
     )
+}
+
+fn files0_from<'a>(alloc: Global) -> Arg<'a>
+    ensures { rule_of result ≡ spec.option (codes "files0-from") }
+{
+    Arg::new(alloc, "files0-from")
+        .long("files0-from")
+        .value_name("FILE")
+        .help("Take the names from FILE, where a NUL ends each; - is standard input")
 }
 
 fn num_threads<'a>(alloc: Global) -> Arg<'a>

@@ -2,4 +2,5 @@
 
 mod arguments;
 mod calls;
+mod lists;
 mod words;

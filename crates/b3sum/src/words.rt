@@ -1,6 +1,6 @@
 // The words of a call, as `clap` reads them.
 
-ghost use Rattle.std.specs.Prelude.{◌≡◌, ◌⊎◌, ◌<◌, ◌≤◌, ◌^◌, IfErr, IfOk, codes, length, map, min};
+ghost use Rattle.std.specs.Prelude.{◌≡◌, ◌⊎◌, ◌<◌, ◌≤◌, ◌^◌, IfErr, IfOk, length, map, min};
 ghost use Rattle.std.specs.Prelude.{option_map, string_bytes};
 ghost use Rattle.std.specs.Option.{ForSome};
 ghost use Rattle.clap.specs.Words.{first_of, found_of, kind_of, rows_of};
@@ -43,7 +43,7 @@ fn words_of(alloc: Global, matches: &ArgMatches) -> Result<Words, Stop>
     Ok(Words {
         check: matches.get_flag("check"),
         keyed: matches.get_flag("keyed"),
-        derive_key: context(alloc, matches)?,
+        derive_key: value_of(alloc, matches, "derive-key")?,
         length: within_output(matches.get_one::<u32>("length")),
         seek: matches.get_one::<u64>("seek"),
         raw: matches.get_flag("raw"),
@@ -55,6 +55,7 @@ fn words_of(alloc: Global, matches: &ArgMatches) -> Result<Words, Stop>
         strict: matches.get_flag("strict"),
         warn: matches.get_flag("warn"),
         num_threads: matches.get_one::<u16>("num-threads"),
+        files0_from: value_of(alloc, matches, "files0-from")?,
         files,
     })
 }
@@ -95,12 +96,13 @@ fn text_of(alloc: Global, error: &clap::Error) -> Result<String, AllocError> {
     format!(in alloc; "{fault}\n\n{help}")
 }
 
-fn context(alloc: Global, matches: &ArgMatches) -> Result<Option<String>, AllocError>
-    ensures { IfOk result (λ context. option_map string_bytes context
-        ≡ first_of (codes "derive-key") (rows_of (found_of matches.now))) }
+// The value of an option, if it is given.
+fn value_of(alloc: Global, matches: &ArgMatches, option: &str) -> Result<Option<String>, AllocError>
+    ensures { IfOk result (λ value. option_map string_bytes value
+        ≡ first_of option.now (rows_of (found_of matches.now))) }
 {
-    match matches.get_str("derive-key") {
-        Some(context) => Ok(Some(String::from_str(alloc, context)?)),
+    match matches.get_str(option) {
+        Some(value) => Ok(Some(String::from_str(alloc, value)?)),
         None => Ok(None),
     }
 }

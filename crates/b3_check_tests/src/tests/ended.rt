@@ -5,8 +5,8 @@ ghost use Rattle.std.specs.Prelude.{◌≡◌, ◌^◌, ◌<◌, ◌≤◌, IfOk
 
 use b3_board::{Gate, OpenGate};
 use b3_check::{
-    CheckOptions, Form, MemoryShelf, MemorySink, RunFault, Shelf, Sink, SumOptions, Tally,
-    run_check, run_sum,
+    CheckOptions, Form, MemoryShelf, MemorySink, Operands, RunFault, Shelf, Sink, SumOptions,
+    Tally, run_check, run_sum,
 };
 use std::alloc::{AllocError, Global};
 use std::process::Abort;
@@ -89,7 +89,16 @@ pub fn sum_into<R: Abort + Threads + Wait + Sync, S: Shelf + Send + Sync, O: Sin
     assert!(rt; !(options.form == Form::Raw && names.len() != 1));
     assert!(rt; options.length <= 1_048_576 && options.seek <= 1_000);
     assert_bounds(rt, options.workers, options.turns, options.largest);
-    run_sum(rt, alloc, shelf, names, out, err, options, &OpenGate)
+    run_sum(
+        rt,
+        alloc,
+        shelf,
+        Operands::given(names),
+        out,
+        err,
+        options,
+        &OpenGate,
+    )
 }
 
 /// Sums names of a shelf.
@@ -125,7 +134,10 @@ pub fn sum_behind<R: Abort + Threads + Wait + Sync, S: Shelf + Send + Sync, G: G
     let mut err = MemorySink::new(alloc);
     assert!(rt; names.len() == 1 && options.length == 32 && options.seek == 0);
     assert_bounds(rt, options.workers, options.turns, options.largest);
-    let answer = run_sum(rt, alloc, shelf, &names, &mut out, &mut err, options, gate);
+    let operands = Operands::given(&names);
+    let answer = run_sum(
+        rt, alloc, shelf, operands, &mut out, &mut err, options, gate,
+    );
     ended_of(alloc, answer, &out, &err)
 }
 
@@ -145,7 +157,16 @@ pub fn check_into<R: Abort + Threads + Wait + Sync, S: Shelf + Send + Sync, O: S
 {
     assert!(rt; lists.len() <= 10_000);
     assert_bounds(rt, options.workers, options.turns, options.largest);
-    run_check(rt, alloc, shelf, lists, out, err, options, &OpenGate)
+    run_check(
+        rt,
+        alloc,
+        shelf,
+        Operands::given(lists),
+        out,
+        err,
+        options,
+        &OpenGate,
+    )
 }
 
 /// Checks lists of a shelf.
@@ -180,7 +201,10 @@ pub fn check_behind<R: Abort + Threads + Wait + Sync, S: Shelf + Send + Sync, G:
     let mut err = MemorySink::new(alloc);
     assert!(rt; lists.len() == 1);
     assert_bounds(rt, options.workers, options.turns, options.largest);
-    let answer = run_check(rt, alloc, shelf, &lists, &mut out, &mut err, options, gate);
+    let operands = Operands::given(&lists);
+    let answer = run_check(
+        rt, alloc, shelf, operands, &mut out, &mut err, options, gate,
+    );
     ended_of(alloc, answer, &out, &err)
 }
 

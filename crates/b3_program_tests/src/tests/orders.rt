@@ -1,10 +1,13 @@
 // The order of what is said on both outputs: what is said of an item goes out, on both, before what is said of the
 // next.
 
-ghost use Rattle.std.specs.Prelude.{◌^◌, ◌<◌};
+ghost use Rattle.std.specs.Prelude.{◌^◌, ◌<◌, ◌≤◌, length};
+ghost use Rattle.b3_check.specs.Operands.{operands_left};
 
 use b3_board::OpenGate;
-use b3_check::{CheckOptions, Form, KeyChoice, Shelf, Sink, SumOptions, Tally, run_check, run_sum};
+use b3_check::{
+    CheckOptions, Form, KeyChoice, Operands, Shelf, Sink, SumOptions, Tally, run_check, run_sum,
+};
 use b3_program::{FileShelf, MemoryDisk, MemoryFile, NamedFile, OutputSink};
 use std::alloc::{AllocError, Global};
 use std::cell::RefCell;
@@ -129,6 +132,19 @@ const SAID_OF_NAMES: [(&str, &str); 9] = [
     ("", "b3sum: -: cannot read\n"),
 ];
 
+// A list of names, and what is said of each.
+const LISTED: &[u8] = b"a\0\xff\0a\0missing\0\0a\0l\xc3";
+
+const SAID_OF_LISTED: [(&str, &str); 7] = [
+    (LINE, ""),
+    ("", "b3sum: names: name 2 is not text\n"),
+    (LINE, ""),
+    ("", "b3sum: missing: cannot read\n"),
+    ("", "b3sum: : bad name\n"),
+    (LINE, ""),
+    ("", "b3sum: names: name 7 is not text\n"),
+];
+
 const LISTS: [&str; 3] = ["l", "gone", "l"];
 
 // What is said of each line of the list.
@@ -141,20 +157,20 @@ const SAID_OF_LINES: [(&str, &str); 6] = [
     ("a: OK\n", ""),
 ];
 
-// Sums names by two workers.
+// Sums operands by two workers.
 fn sum<R: Abort + Threads + Wait + Sync, S: Shelf + Send + Sync, O: Sink, E: Sink>(
     rt: &R,
     alloc: Global,
     shelf: &mut S,
+    operands: Operands<'_>,
     out: &mut O,
     err: &mut E,
 ) -> Result<Tally, Fail>
     requires shelf { S.failures shelf.old < 2 ^ 63 }
+    requires operands { length (operands_left operands) ≤ 2 ^ 30 }
     requires out { O.failures out.old < 2 ^ 63 }
     requires err { E.failures err.old < 2 ^ 63 }
 {
-    let names = strings(alloc, &NAMES)?;
-    assert!(rt; names.len() <= NAMES.len());
     let asked = SumOptions {
         key: KeyChoice::Plain,
         seek: 0,
@@ -164,7 +180,7 @@ fn sum<R: Abort + Threads + Wait + Sync, S: Shelf + Send + Sync, O: Sink, E: Sin
         turns: 1_000,
         largest: 1_000,
     };
-    let answer = run_sum(rt, alloc, shelf, &names, out, err, &asked, &OpenGate);
+    let answer = run_sum(rt, alloc, shelf, operands, out, err, &asked, &OpenGate);
     Ok(answer?)
 }
 
@@ -192,33 +208,63 @@ fn check<R: Abort + Threads + Wait + Sync, S: Shelf + Send + Sync, O: Sink, E: S
         turns: 1_000,
         largest: 1_000,
     };
-    let answer = run_check(rt, alloc, shelf, &lists, out, err, &asked, &OpenGate);
+    let operands = Operands::given(&lists);
+    let answer = run_check(rt, alloc, shelf, operands, out, err, &asked, &OpenGate);
     Ok(answer?)
 }
 
-// The lines of names that are hashed beside one another wait for those after them, and a complaint comes in its turn.
+// Sums operands, of which so many are ok and failed, and both outputs were given this.
 fn assert_sums<R: Abort + Threads + Wait + Sync>(
     rt: &R,
     alloc: Global,
+    operands: Operands<'_>,
     is_gathering: bool,
-) -> Result<(), Fail> {
+    counts: (u64, u64),
+    said: &[(&str, &str)],
+) -> Result<(), Fail>
+    requires { length (operands_left operands) ≤ 2 ^ 30 }
+{
     let log = RefCell::new(Log::new(alloc));
     let mut out = OutputSink::new(Output::new(OUT, &log)).gathering(is_gathering);
     let mut err = OutputSink::new(Output::new(ERR, &log));
     let mut shelf = FileShelf::new(MemoryDisk::new(&FILES), MemoryFile::new(b"\0"));
-    let tally = sum(rt, alloc, &mut shelf, &mut out, &mut err)?;
-    assert!(rt; tally.ok == 5 && tally.failed == 4);
+    let tally = sum(rt, alloc, &mut shelf, operands, &mut out, &mut err)?;
+    assert_eq!(rt; (tally.ok, tally.failed), counts);
     let mut due = Log::new(alloc);
-    due.add_items(&SAID_OF_NAMES)?;
+    due.add_items(said)?;
     let seen = log.into_inner();
     assert_eq!(rt; seen.text.as_str(), due.text.as_str());
     Ok(())
 }
 
+// The lines of names that are hashed beside one another wait for those after them, and a complaint comes in its turn.
 #[test]
 fn lines_and_complaints_of_sums(rt: HostRuntime) -> Result<(), Fail> {
-    assert_sums(&rt, rt.alloc(), false)?;
-    assert_sums(&rt, rt.alloc(), true)
+    let alloc = rt.alloc();
+    let names = strings(alloc, &NAMES)?;
+    assert!(rt; names.len() <= NAMES.len());
+    for is_gathering in [false, true] {
+        let operands = Operands::given(&names);
+        assert_sums(&rt, alloc, operands, is_gathering, (5, 4), &SAID_OF_NAMES)?;
+    }
+    Ok(())
+}
+
+// So does one of a name that is not text.
+#[test]
+fn lines_and_complaints_of_a_list_of_names(rt: HostRuntime) -> Result<(), Fail> {
+    for is_gathering in [false, true] {
+        let operands = Operands::in_list("names", LISTED);
+        assert_sums(
+            &rt,
+            rt.alloc(),
+            operands,
+            is_gathering,
+            (3, 4),
+            &SAID_OF_LISTED,
+        )?;
+    }
+    Ok(())
 }
 
 // Verdicts wait for those after them, and a complaint of a line or of a list comes in its turn.

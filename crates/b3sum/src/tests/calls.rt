@@ -24,8 +24,8 @@ fn arguments(alloc: Global, words: &[&str]) -> Result<Vec<String>, AllocError> {
     Ok(all)
 }
 
-// A call over this shelf, which writes these texts and ends with this status.
-fn assert_call<R: Abort + Threads + Wait + Sync, S: Shelf + Send + Sync>(
+/// A call over this shelf, which writes these texts and ends with this status.
+pub fn assert_call<R: Abort + Threads + Wait + Sync, S: Shelf + Send + Sync>(
     rt: &R,
     alloc: Global,
     shelf: &mut S,
@@ -268,7 +268,7 @@ fn a_check_with_all_its_words(rt: HostRuntime) -> Result<(), AllocError> {
 }
 
 // Words that ask for what cannot be done, and what is said of them.
-const REFUSED: [(&[&str], &str); 27] = [
+const REFUSED: [(&[&str], &str); 33] = [
     (
         &["--check", "--raw", "--keyed"],
         "b3sum: --check cannot be used with --keyed\n",
@@ -358,6 +358,30 @@ const REFUSED: [(&[&str], &str); 27] = [
     (
         &["--check", "--strict", "--tag"],
         "b3sum: --check cannot be used with --tag\n",
+    ),
+    (
+        &["--files0-from", "n", "e"],
+        "b3sum: --files0-from takes no FILE\n",
+    ),
+    (
+        &["--files0-from", "n", "--check", ""],
+        "b3sum: --files0-from takes no FILE\n",
+    ),
+    (
+        &["--files0-from", "n", "-w", "e"],
+        "b3sum: --warn needs --check\n",
+    ),
+    (
+        &["--files0-from", "n", "--seek", "18446744073709551615", "e"],
+        "b3sum: --seek and --length pass the end of the output\n",
+    ),
+    (
+        &["--files0-from", "-", "--keyed"],
+        "b3sum: --keyed needs files\n",
+    ),
+    (
+        &["--files0-from", "n", "--raw", "e", "e"],
+        "b3sum: --raw takes one input\n",
     ),
 ];
 

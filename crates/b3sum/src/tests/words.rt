@@ -2,7 +2,7 @@
 
 use crate::words::read_words;
 use b3_check::{MAX_OUTPUT_LEN, MAX_WORKERS};
-use b3_program::{Stop, Task, Usage, Words, settle};
+use b3_program::{Job, Stop, Task, Usage, Words, settle};
 use std::alloc::{AllocError, Global};
 use std::process::Abort;
 
@@ -36,11 +36,11 @@ fn no_words(rt: HostRuntime) -> Result<(), Stop> {
     assert_eq!(rt; words.length, None);
     assert_eq!(rt; words.seek, None);
     assert_eq!(rt; words.num_threads, None);
-    assert!(rt; words.files.is_empty());
+    assert!(rt; words.files0_from.is_none() && words.files.is_empty());
     Ok(())
 }
 
-const ALL: [&str; 23] = [
+const ALL: [&str; 25] = [
     "-c",
     "a",
     "--keyed",
@@ -58,6 +58,8 @@ const ALL: [&str; 23] = [
     "--status",
     "--strict",
     "-w",
+    "--files0-from",
+    "names",
     "--num-threads",
     "0",
     "--no-mmap",
@@ -75,6 +77,7 @@ fn all_words(rt: HostRuntime) -> Result<(), Stop> {
     assert!(rt; words.derive_key == Some(String::from_str(rt.alloc(), "a context")?));
     assert_eq!(rt; words.length, Some(0));
     assert_eq!(rt; words.num_threads, Some(0));
+    assert!(rt; words.files0_from == Some(String::from_str(rt.alloc(), "names")?));
     assert_eq!(rt; words.files.len(), 3);
     assert!(rt;
         words.files[0].as_str() == "a"
@@ -192,6 +195,7 @@ fn words_of_a_sum(alloc: Global, tag: bool, no_names: bool) -> Words {
         strict: false,
         warn: false,
         num_threads: None,
+        files0_from: None,
         files: Vec::new(alloc),
     }
 }
@@ -200,7 +204,15 @@ fn words_of_a_sum(alloc: Global, tag: bool, no_names: bool) -> Words {
 #[test]
 fn settling_words_takes_no_memory(rt: HostRuntime) {
     let task = settle(words_of_a_sum(rt.alloc(), true, false));
-    assert!(rt; matches!(task, Ok(Task::Sum(..))));
+    assert!(rt;
+        matches!(
+            task,
+            Ok(Task {
+                job: Job::Sum(_),
+                ..
+            })
+        )
+    );
     let task = settle(words_of_a_sum(rt.alloc(), true, true));
     assert!(rt; matches!(task, Err(Usage::TagExcludes("--no-names"))));
     assert!(rt;

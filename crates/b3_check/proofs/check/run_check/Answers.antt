@@ -1,7 +1,8 @@
-use Rattle.std.proofs.Common.{rules, ◌∙◌, List, ap, map, string_bytes, ℕ}
+use Rattle.std.proofs.Common.{rules, ◌∙◌, List, ap}
 use Rattle.std.proofs.lemmas.List.Elements.{recursion_from_All}
 use Rattle.b3_check.specs.Checks.{check_script}
 use Rattle.b3_check.specs.Laws.{IsThere, oks_of, verdicts_on}
+use Rattle.b3_check.specs.Operands.{Operand, operands_left}
 use Rattle.b3_check.specs.Scripts.{report_from}
 use Rattle.b3_check.proofs.CheckLemmas.{entry_of-read}
 use Rattle.b3_check.proofs.LawLemmas.{report_from-checked, report_from-sums, wrote_surely}
@@ -13,18 +14,18 @@ use Rattle.b3_check.proofs.check.run_check.Goals as goal
 pub returns-clause-checks : goal.returns-clause-checks
 returns-clause-checks g c contents list text entries knows asks lists_are has says =
     let options = c.args.options.now in
-    wrote_surely g.S.Shelf g.O.Sink g.E.Sink contents (check_script options (map string_bytes c.args.lists.now))
+    wrote_surely g.S.Shelf g.O.Sink g.E.Sink contents (check_script options (operands_left c.args.lists))
     c.args.shelf.now c.args.shelf.now c.args.out.now _ c.args.err.now _ c.check_lists.result
     (verdicts_on contents entries) knows
-    (ap (λ (ls : List (List ℕ)). report_from contents (check_script options ls)) lists_are
+    (ap (λ (ls : List Operand). report_from contents (check_script options ls)) lists_are
     ∙ report_from-checked options contents list text entries asks has says) (search rules)
 
 pub returns-clause-sums_check : goal.returns-clause-sums_check
 returns-clause-sums_check g c contents form list files knows asks lists_are shows has there =
     let options = c.args.options.now in
-    wrote_surely g.S.Shelf g.O.Sink g.E.Sink contents (check_script options (map string_bytes c.args.lists.now))
+    wrote_surely g.S.Shelf g.O.Sink g.E.Sink contents (check_script options (operands_left c.args.lists))
     c.args.shelf.now c.args.shelf.now c.args.out.now _ c.args.err.now _ c.check_lists.result (oks_of files) knows
-    (ap (λ (ls : List (List ℕ)). report_from contents (check_script options ls)) lists_are
+    (ap (λ (ls : List Operand). report_from contents (check_script options ls)) lists_are
     ∙ report_from-sums options form contents list files asks shows has
     (recursion_from_All (IsThere contents) files there)) (search rules)
 
@@ -34,10 +35,10 @@ returns-clause-entries g c = entry_of-read
 pub returns-clause-right : goal.returns-clause-right
 returns-clause-right g c contents told =
     let right = ChecksRightly-from_run (check_limits c.args.options.now) _ _ c.check_lists.result contents
-    c.args.options.now (map string_bytes c.args.lists.now) told c.check_lists.ensures.run in
+    c.args.options.now (operands_left c.args.lists) told c.check_lists.ensures.run in
     search (rules, right)
 
 pub returns-clause-all_verified : goal.returns-clause-all_verified
 returns-clause-all_verified g c contents told =
-    AllVerified-from_right contents c.args.options.now (map string_bytes c.args.lists.now) _ _ _ _ c.check_lists.result
+    AllVerified-from_right contents c.args.options.now (operands_left c.args.lists) _ _ _ _ c.check_lists.result
     (returns-clause-right g c contents told)

@@ -1,6 +1,7 @@
-use Rattle.std.proofs.Common.{rules, map, string_bytes}
+use Rattle.std.proofs.Common.{rules}
 use Rattle.std.proofs.lemmas.List.Elements.{recursion_from_All}
 use Rattle.b3_check.specs.Laws.{IsThere, sums_of}
+use Rattle.b3_check.specs.Operands.{operands_left}
 use Rattle.b3_check.specs.Sums.{sum_script}
 use Rattle.b3_check.proofs.LawLemmas.{report_from-summed, wrote_surely}
 use Rattle.b3_check.specs.Options.{limits_of}
@@ -9,21 +10,22 @@ use Rattle.b3_check.proofs.VerifiedLemmas.{WritesAll-from_right}
 use Rattle.b3_check.proofs.sum.run_sum.Goals as goal
 
 pub returns-clause-sums : goal.returns-clause-sums
-returns-clause-sums g c contents files knows asks names_are there =
+returns-clause-sums g c contents files knows asks operands_are there =
     let options = c.args.options.now in
-    let names = map string_bytes c.args.names.now in
-    wrote_surely g.S.Shelf g.O.Sink g.E.Sink contents (sum_script options names) c.args.shelf.now c.args.shelf.now
+    let operands = operands_left c.args.operands in
+    wrote_surely g.S.Shelf g.O.Sink g.E.Sink contents (sum_script options operands) c.args.shelf.now c.args.shelf.now
     c.args.out.now _ c.args.err.now _ c.sum_names.result (sums_of options.form files) knows
-    (report_from-summed options contents files names asks names_are (recursion_from_All (IsThere contents) files there))
+    (report_from-summed options contents files operands asks operands_are
+    (recursion_from_All (IsThere contents) files there))
     (search rules)
 
 pub returns-clause-right : goal.returns-clause-right
 returns-clause-right g c contents told =
     let right = SumsRightly-from_run (limits_of c.args.options.now) _ _ c.sum_names.result contents c.args.options.now
-    (map string_bytes c.args.names.now) told c.sum_names.ensures.run in
+    (operands_left c.args.operands) told c.sum_names.ensures.run in
     search (rules, right)
 
 pub returns-clause-all_written : goal.returns-clause-all_written
 returns-clause-all_written g c contents told =
-    WritesAll-from_right contents c.args.options.now (map string_bytes c.args.names.now) _ _ _ _ c.sum_names.result
+    WritesAll-from_right contents c.args.options.now (operands_left c.args.operands) _ _ _ _ c.sum_names.result
     (returns-clause-right g c contents told)

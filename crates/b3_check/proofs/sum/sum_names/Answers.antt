@@ -1,12 +1,13 @@
-use Rattle.std.proofs.Common.{◌<◌, ◌^◌, Err, arith, length, map, refl, string_bytes, subst, sym}
+use Rattle.std.proofs.Common.{◌<◌, ◌^◌, Err, arith, length, refl, subst, sym}
 use Rattle.std.proofs.lemmas.List.{length-map}
 use Rattle.std.proofs.lemmas.Result.{err_from_is_err_and}
 use Rattle.b3_core.specs.declared.modes.Mode.{Mode}
 use Rattle.b3_check.specs.Devices.{CanCount, io_state_of}
 use Rattle.b3_check.specs.Digests.{range_of}
+use Rattle.b3_check.specs.Operands.{operands_left}
 use Rattle.b3_check.specs.Sums.{names_script}
 use Rattle.b3_check.proofs.RunLemmas.{mode_count, mode_room, runs_in_mode, runs_surely, stopped_at_once, stopped_in_mode}
-use Rattle.b3_check.proofs.TaskLemmas.{tasks_script-names}
+use Rattle.b3_check.proofs.TaskLemmas.{tasks_script-operands}
 use Rattle.b3_check.proofs.sum.sum_names.Goals as goal
 
 pub returns-in_err-mode-clause-run : goal.returns-in_err-mode-clause-run
@@ -18,20 +19,20 @@ pub returns-in_err-engine-clause-run : goal.returns-in_err-engine-clause-run
 returns-in_err-engine-clause-run g c =
     let p = err_from_is_err_and c.from_residual-in_err-engine.result c.from_residual-in_err-engine.ensures.1 in
     let options = c.args.options.now in
-    let next = λ (mode : Mode). names_script options.form (range_of mode options) (map string_bytes c.args.names.now)
-    in
+    let next = λ (mode : Mode).
+    names_script options.form (range_of mode options) (operands_left c.args.operands) in
     rw p.1 (runs_in_mode _ options.key c.in_ok-mode.mode next _ _ _ (Err p.0) c.in_ok-mode.ensures.found
     (stopped_at_once (next c.in_ok-mode.mode) _ p.0 p.2))
 
 pub returns-clause-run : goal.returns-clause-run
 returns-clause-run g c =
     let options = c.args.options.now in
-    let next = λ (mode : Mode). names_script options.form (range_of mode options) (map string_bytes c.args.names.now)
-    in
+    let next = λ (mode : Mode).
+    names_script options.form (range_of mode options) (operands_left c.args.operands) in
     let run = rw (c.in_ok-engine.ensures.range, c.in_ok-engine.ensures.limits, c.limits.ensures) at c.run.ensures.run
     in
-    let names = rw (tasks_script-names string_bytes (range_of c.in_ok-mode.mode options) options.form
-    c.args.names.now) at run in
+    let names = rw (tasks_script-operands (range_of c.in_ok-mode.mode options) options.form
+    (operands_left c.args.operands)) at run in
     runs_in_mode _ options.key c.in_ok-mode.mode next _ _ _ c.run.result c.in_ok-mode.ensures.found names
 
 pub returns-clause-sure : goal.returns-clause-sure
@@ -43,11 +44,11 @@ returns-in_err-mode-clause-shelf_count g c =
 
 pub run-requires : goal.run-requires
 run-requires g c = λ _.
-    let names = c.args.names.now in
+    let operands = operands_left c.args.operands in
     let seen = io_state_of g.S.Shelf g.O.Sink g.E.Sink in
     let found = c.in_ok-mode.ensures.found in
-    let countable : CanCount (seen c.find_mode.new.devices) (length names) =
-    mode_room c.args.options.now.key c.in_ok-mode.mode _ _ (length names) found c.requires.countable in (
+    let countable : CanCount (seen c.find_mode.new.devices) (length operands) =
+    mode_room c.args.options.now.key c.in_ok-mode.mode _ _ (length operands) found c.requires.countable in (
       c.type_bounds.send-S,
       (
         c.type_bounds.sync-R,
@@ -60,8 +61,8 @@ run-requires g c = λ _.
               (
                 refl,
                 (
-                  subst (λ n. n < 2 ^ 63) (sym (length-map names _)) (omega (arith, c.requires.names)),
-                  subst (λ n. CanCount (seen c.find_mode.new.devices) n) (sym (length-map names _)) countable,
+                  subst (λ n. n < 2 ^ 63) (sym (length-map operands _)) (omega (arith, c.requires.operands)),
+                  subst (λ n. CanCount (seen c.find_mode.new.devices) n) (sym (length-map operands _)) countable,
                 ),
               ),
             ),

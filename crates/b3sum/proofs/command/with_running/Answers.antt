@@ -4,6 +4,7 @@ use Rattle.b3sum.proofs.OptionLemmas.{added}
 use Rattle.b3sum.proofs.command.with_running.Goals as goal
 
 pub returns : goal.returns
-returns c = IfOk-weaker c.arg-2.result _ _ (λ more adds. added adds refl c.no_mmap.ensures
-    (added c.in_ok-arg.ensures refl c.num_threads.ensures
-    (refl))) c.arg-2.ensures
+returns c = IfOk-weaker c.arg-3.result _ _ (λ more adds. added adds refl c.no_mmap.ensures
+    (added c.in_ok-arg-2.ensures refl c.num_threads.ensures
+    (added c.in_ok-arg.ensures refl c.files0_from.ensures
+    (refl)))) c.arg-3.ensures

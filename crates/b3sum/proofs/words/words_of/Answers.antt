@@ -11,7 +11,7 @@ returns-clause-words c =
           c.get_flag.ensures.none c.get_flag.ensures.value c.get_flag.ensures.other;
       keyed = flag_read found (codes "keyed") _
           c.get_flag-2.ensures.none c.get_flag-2.ensures.value c.get_flag-2.ensures.other;
-      derive_key = c.in_ok-context.ensures;
+      derive_key = c.in_ok-value_of.ensures;
       length = (
         c.get_one.result,
         number_read found (codes "length") 32 _ c.get_one.ensures.none c.get_one.ensures.value,
@@ -35,5 +35,6 @@ returns-clause-words c =
       warn = flag_read found (codes "warn") _
           c.get_flag-10.ensures.none c.get_flag-10.ensures.value c.get_flag-10.ensures.other;
       num_threads = number_read found (codes "num-threads") 16 _ c.get_one-3.ensures.none c.get_one-3.ensures.value;
+      files0_from = c.in_ok-value_of-2.ensures;
       files = c.in_ok-files.ensures;
     }

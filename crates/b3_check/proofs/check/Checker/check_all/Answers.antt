@@ -1,40 +1,30 @@
-use Rattle.std.proofs.Common.{◌∙◌, arith, refl, string_bytes}
+use Rattle.std.proofs.Common.{◌∙◌, refl}
 use Rattle.std.proofs.lemmas.Result.{err_from_is_err_and}
-use Rattle.b3_check.proofs.CheckLemmas.{lists_more, lists_next, lists_stopped}
-use Rattle.b3_check.proofs.RunLemmas.{ran_done}
+use Rattle.b3_check.specs.Operands.{operand_of}
+use Rattle.b3_check.proofs.CheckLemmas.{lists_more, lists_none, lists_stopped}
 use Rattle.b3_check.proofs.check.Checker.check_all.Goals as goal
 
 pub returns-in_err-one-clause-run : goal.returns-in_err-one-clause-run
 returns-in_err-one-clause-run g c =
     let p = err_from_is_err_and c.from_residual.result c.from_residual.ensures.1 in
-    let stopped = rw (c.loop-list.invariant.options, c.as_str.ensures.value) at
-    c.in_err-one.ensures.run in
-    rw (p.1, p.2)
-    (lists_stopped string_bytes c.args.self.now.options c.args.lists.now c.loop-list.list-index c.list-item.result
-    c.loop-list-test.true c.list-item.is
-    c.loop-list.invariant.ran stopped)
+    let held = c.loop-list.invariant in
+    let so_far = rw c.in-Some.ensures.next at held.so_far in
+    let stopped = rw held.options at c.in_err-one.ensures.run in
+    rw (p.1, p.2) (lists_stopped (operand_of c.in-Some.list) so_far stopped)
 
 pub loop-list-init : goal.loop-list-init
-loop-list-init g c = record {
-  ran = rw c.none-tally.ensures (ran_done _);
-  few = rw c.none-tally.ensures (omega arith);
-  failures = omega arith;
-  loans = refl;
-  options = refl;
-}
+loop-list-init g c = record { so_far = lists_none c.none-tally.ensures; loans = refl; options = refl }
 
 pub loop-list-preserved : goal.loop-list-preserved
 loop-list-preserved g c =
-    let ran = rw (c.loop-list.invariant.options, c.as_str.ensures.value) at c.in_ok-one.ensures.run in
-    let count = rw c.loop-list.invariant.options at c.in_ok-one.ensures.count in
-    let failures = rw c.loop-list.invariant.options at c.in_ok-one.ensures.shelf_count in
-    let next = lists_next c.loop-list.list-index c.args.self.now.options.largest in
+    let held = c.loop-list.invariant in
+    let so_far = rw c.in-Some.ensures.next at held.so_far in
+    let one = c.in_ok-one.ensures in
+    let ran = rw held.options at one.run in
+    let count = rw held.options at one.count in
+    let failures = rw held.options at one.shelf_count in
     record {
-      ran = rw c.add.ensures (lists_more string_bytes c.args.self.now.options c.args.lists.now c.loop-list.list-index
-          c.list-item.result c.loop-list-test.true c.list-item.is
-          c.loop-list.invariant.ran ran);
-      few = rw c.add.ensures (omega (arith, count, next, c.loop-list.invariant.few));
-      failures = omega (arith, failures, next, c.loop-list.invariant.failures);
-      loans = c.in_ok-one.ensures.loans ∙ c.loop-list.invariant.loans;
-      options = c.in_ok-one.ensures.options ∙ c.loop-list.invariant.options;
+      so_far = rw c.add.ensures (lists_more (operand_of c.in-Some.list) so_far ran count failures);
+      loans = one.loans ∙ held.loans;
+      options = one.options ∙ held.options;
     }

@@ -1,8 +1,7 @@
-use Rattle.std.proofs.Common.{◌≡◌, ◌+◌, ◌*◌, ◌≤◌, map, string_bytes, take}
-use Rattle.b3_check.specs.Checks.{lists_script}
+use Rattle.std.proofs.Common.{◌≡◌, length}
 use Rattle.b3_check.specs.Devices.{loans, io_state_of}
-use Rattle.b3_check.specs.Runs.{Ran}
-use Rattle.b3_check.specs.Tasks.{counted}
+use Rattle.b3_check.specs.Operands.{operands_left}
+use Rattle.b3_check.proofs.CheckLemmas.{ListsSoFar}
 use Rattle.b3_check.proofs.check.Checker.check_all.Given as goal
 
 -- the lists so far are checked
@@ -10,11 +9,11 @@ abbrev pub invariant-loop-list : goal.invariant-loop-list
 invariant-loop-list g l =
     let seen = io_state_of g.S.Shelf g.O.Sink g.E.Sink in
     record {
-      ran : Ran (lists_script l.fn.self.options (map string_bytes (take l.list-index l.lists))) (seen l.fn.devices)
+      so_far : ListsSoFar l.fn.self.options (operands_left l.fn.lists) (operands_left l.lists) (seen l.fn.devices)
           (seen l.devices) l.tally;
-      few : counted l.tally ≤ 2 * (l.list-index * (1 + l.fn.self.options.largest));
-      failures : (seen l.devices).failures ≤ (seen l.fn.devices).failures + l.list-index *
-          (1 + l.fn.self.options.largest);
       loans : loans l.devices ≡ loans l.fn.devices;
       options : l.self.options ≡ l.fn.self.options;
     }
+
+abbrev pub decreases-loop-list : goal.decreases-loop-list
+decreases-loop-list g l = length (operands_left l.lists)

@@ -15,8 +15,8 @@ returns-clause-steps c =
     let start = c.self.inside.start in
     let rest = take_rest text start in
     sym c.self.view_is
-    ∙ ranges_from-first text start c.first_line_length.result _ _ refl refl
-    (rw rest at c.first_line_length.ensures.within) (rw rest at c.first_line_length.ensures.first)
+    ∙ ranges_from-first text start c.first_piece_length.result _ _ refl refl
+    (rw rest at c.first_piece_length.ensures.within) (rw rest at c.first_piece_length.ensures.first)
 
 pub returns-clause-goes : goal.returns-clause-goes
 returns-clause-goes c =
