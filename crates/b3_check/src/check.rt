@@ -99,6 +99,9 @@ pub fn run_check<
         → IfOk result (λ tally. Wrote (oks_of files)
         (O.held out.old) (O.held out.new) (E.held err.old) (E.held err.new) tally) }
 
+    // A line says one entry at most.
+    ensures one_entry { (line : List ℕ) (entry other : Entry) → Says line entry → Says line other → entry ≡ other }
+
     // What a line says is what is taken of it.
     ensures entries { (line digest name shown : List ℕ) → IsReadAs line digest name shown
         → entry_of line ≡ record { digest = digest; name = name; shown = shown } }

@@ -1,4 +1,4 @@
-use Rattle.std.proofs.Common.{rules, ◌∙◌, List, ap}
+use Rattle.std.proofs.Common.{rules, ◌∙◌, List, ap, sym}
 use Rattle.std.proofs.lemmas.List.Elements.{recursion_from_All}
 use Rattle.b3_check.specs.Checks.{check_script}
 use Rattle.b3_check.specs.Laws.{IsThere, oks_of, verdicts_on}
@@ -31,6 +31,11 @@ returns-clause-sums_check g c contents form list files knows asks lists_are show
 
 pub returns-clause-entries : goal.returns-clause-entries
 returns-clause-entries g c = entry_of-read
+
+pub returns-clause-one_entry : goal.returns-clause-one_entry
+returns-clause-one_entry g c line entry other says also =
+    sym (entry_of-read line entry.digest entry.name entry.shown says)
+    ∙ entry_of-read line other.digest other.name other.shown also
 
 pub returns-clause-right : goal.returns-clause-right
 returns-clause-right g c contents told =
