@@ -36,7 +36,7 @@ use Rattle.b3_check.specs.declared.tally.Tally.{Tally}
 use Rattle.b3_check.specs.Contents.{Contents}
 use Rattle.b3_check.specs.Checks.{Entry, check_script, line_script, line_scripts, lines_script, list_end_script, verdict_on, verdict_report, warning, warning_script}
 use Rattle.b3_check.specs.Digests.{digest_of, digest_script, line_range}
-use Rattle.b3_check.specs.Laws.{AsksAll, AsksDigests, File, IsThere, IsReliable, Says, Wrote, all_ok, counted_over, digest, line_of, ok_of, oks_of, sums_of, tally_of, verdict, verdict_line, verdict_over, verdicts_on, words_of}
+use Rattle.b3_check.specs.Laws.{AsksAll, AsksDigests, File, IsThere, Says, Writes, all_ok, counted_over, digest, line_of, ok_of, oks_of, sums_of, tally_of, verdict, verdict_over, verdicts_on, words_of}
 use Rattle.b3_check.specs.Operands.{Operand}
 use Rattle.b3_check.specs.Operands.Operand.{Text}
 use Rattle.b3_check.specs.Runs.{RanFrom, RanSurely, RanSurelyOver, IoState, io_state}
@@ -87,6 +87,10 @@ report_from-summed asked contents files operands asks operands_are is =
     rw (asks.key, asks.seek, asks.length, operands_are) (report_from-names asked.form contents files is)
 
 -- ---- a check
+
+-- what is written of a line: its name as it stands there, and the words of its verdict
+abbrev verdict_line : Contents → Entry → List ℕ
+verdict_line contents entry = entry.shown ++ words_of (verdict_over contents entry) ++ 10 ∷ []
 
 -- what is said of lines by their verdicts
 abbrev verdicts_said : Contents → List Entry → Report
@@ -316,18 +320,20 @@ report_from-sums asked form contents list files asks shows has is =
 -- a run that is sure says what its script says over the contents
 wrote_from : (told : Option Contents) (sure : Bool) (contents : Contents) (script : Script) (a b : IoState)
     (tally : Tally) (said : Report)
-    → IsReliable told sure contents → report_from contents script ≡ said → RanSurelyOver told sure script a b tally
-    → Wrote said a.out.held b.out.held a.err.held b.err.held tally
-wrote_from told sure contents script a b tally said knows is ran =
-    let from : RanFrom contents script a b tally = rw (knows.0, knows.1) at ran in
-    rw (← is) (record { out = from.out; err = from.err; counted = from.counted })
+    → told ≡ Some contents → sure ≡ true → report_from contents script ≡ said
+    → RanSurelyOver told sure script a b tally
+    → Writes said a.out.held b.out.held a.err.held b.err.held (Ok tally)
+wrote_from told sure contents script a b tally said tells is_sure is ran =
+    let from : RanFrom contents script a b tally = rw (tells, is_sure) at ran in
+    let Wrote_so : Report → Type 0 = λ p. Writes p a.out.held b.out.held a.err.held b.err.held (Ok tally) in
+    subst Wrote_so is (from.out, from.err, from.counted)
 
 pub wrote_surely : {S O E : Type 0} (s : ShelfWords S) (o : SinkWords O) (e : SinkWords E) (contents : Contents)
     (script : Script) (shelf shelf₂ : S) (out out₂ : O) (err err₂ : E) (result : Result Tally RunFault) (said : Report)
-    → IsReliable (s.told shelf) (s.is_sure shelf) contents → report_from contents script ≡ said
+    → s.told shelf ≡ Some contents → s.is_sure shelf ≡ true → report_from contents script ≡ said
     → IfOk result (λ tally. RanSurely script (io_state s o e shelf out err) (io_state s o e shelf₂ out₂ err₂) tally)
-    → IfOk result (λ tally. Wrote said (o.held out) (o.held out₂) (e.held err) (e.held err₂) tally)
-wrote_surely s o e contents script shelf shelf₂ out out₂ err err₂ (Ok tally) said knows is ran =
+    → IfOk result (λ tally. Writes said (o.held out) (o.held out₂) (e.held err) (e.held err₂) (Ok tally))
+wrote_surely s o e contents script shelf shelf₂ out out₂ err err₂ (Ok tally) said tells is_sure is ran =
     wrote_from (s.told shelf) (s.is_sure shelf) contents script (io_state s o e shelf out err)
-    (io_state s o e shelf₂ out₂ err₂) tally said knows is ran
-wrote_surely s o e contents script shelf shelf₂ out out₂ err err₂ (Err fault) said knows is ran = tt
+    (io_state s o e shelf₂ out₂ err₂) tally said tells is_sure is ran
+wrote_surely s o e contents script shelf shelf₂ out out₂ err err₂ (Err fault) said tells is_sure is ran = tt

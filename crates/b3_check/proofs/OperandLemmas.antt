@@ -1,21 +1,22 @@
 -- The operands that are left: of a list of names, piece by piece.
 use Rattle.std.proofs.Common.{◌≡◌, ℕ, suc, ◌+◌, List, [], ◌∷◌, ◌++◌, length, map, refl, sym, ap, ◌∙◌, arith}
-use Rattle.std.specs.Prelude.{IsUtf8}
+use Rattle.std.specs.Prelude.{IsUtf8, if◌then◌else◌}
 use Rattle.std.specs.Str.{is_utf8}
 use Rattle.std.proofs.lemmas.Bool.{cond-false, cond-true, false_from_ne_true}
 use Rattle.std.proofs.lemmas.List.{append-nil}
 use Rattle.std.proofs.lemmas.Str.{IsUtf8-from_is_utf8, is_utf8-from_IsUtf8}
 use Rattle.b3_lines.specs.Lines.{pieces_of}
 use Rattle.b3_lines.proofs.Pieces.{pieces_of-nil}
-use Rattle.b3_check.specs.Operands.{Operand, operands_from, piece_operand}
+use Rattle.b3_check.specs.Operands.{Operand, operands_from}
 use Rattle.b3_check.specs.Operands.Operand.{Text, NotText}
 
 -- a piece that is text, and one that is not
-piece_text : (list : List ℕ) (number : ℕ) (piece : List ℕ) → IsUtf8 piece → piece_operand list number piece ≡ Text piece
+piece_text : (list : List ℕ) (number : ℕ) (piece : List ℕ) → IsUtf8 piece
+    → (if is_utf8 piece then Text piece else NotText list number) ≡ Text piece
 piece_text list number piece text = cond-true (is_utf8 piece) _ _ (is_utf8-from_IsUtf8 piece text)
 
 piece_not_text : (list : List ℕ) (number : ℕ) (piece : List ℕ) → ¬ IsUtf8 piece
-    → piece_operand list number piece ≡ NotText list number
+    → (if is_utf8 piece then Text piece else NotText list number) ≡ NotText list number
 piece_not_text list number piece other =
     cond-false (is_utf8 piece) _ _
     (false_from_ne_true (is_utf8 piece) (λ text. other (IsUtf8-from_is_utf8 piece text)))

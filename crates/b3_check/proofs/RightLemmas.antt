@@ -26,7 +26,7 @@ use Rattle.b3_check.specs.declared.tally.Tally.{Tally}
 use Rattle.b3_check.specs.Checks.{Entry, check_script, entry_of, line_script, line_scripts, lines_script, list_end_report, list_operand_script, list_script, lists_script, refused_report, unnamed_list_report, unread_list_report, verdict_on, verdict_report, warning_report}
 use Rattle.b3_check.specs.Contents.{Contents, input_name}
 use Rattle.b3_check.specs.Digests.{digest_of, digest_script, line_range, range_of}
-use Rattle.b3_check.specs.Laws.{ChecksRightly, IsJust, IsModeOf, LineIsRight, ListIsRight, ListOperandIsRight, NameIsRight, OperandIsRight, Says, SumsRightly, Writes, cannot_show, digest, total}
+use Rattle.b3_check.specs.Laws.{ChecksRightly, IsJust, IsModeOf, LineIsRight, ListOperandIsRight, OperandIsRight, Says, SumsRightly, Writes, cannot_show, digest, total}
 use Rattle.b3_check.specs.Operands.{Operand}
 use Rattle.b3_check.specs.Operands.Operand.{Text, NotText}
 use Rattle.b3_check.specs.Runs.{IoState}
@@ -239,7 +239,7 @@ module _ (contents : Contents) (sure : Bool) where
   -- a name that is answered has its line or a complaint
   named : (options : SumOptions) (mode : Mode) (name : List ℕ) (content : Option (List ℕ))
       → IsModeOf contents options.key mode → cannot_show options.form name ≡ false → contents name ≡ content
-      → NameIsRight contents options name
+      → OperandIsRight contents options (Text name)
       (name_report options.form name (digest_of (range_of mode options) (answer_of Hashed content)))
   named options mode name None is_mode shows is = inr (inl refl)
   named options mode name (Some bytes) is_mode shows is = inl (record {
@@ -253,9 +253,9 @@ module _ (contents : Contents) (sure : Bool) where
 
   Assures-name : (options : SumOptions) (mode : Mode) (name : List ℕ) → IsModeOf contents options.key mode
       → Assures contents sure (name_script options.form (range_of mode options) name)
-      (NameIsRight contents options name)
+      (OperandIsRight contents options (Text name))
   Assures-name options mode name is_mode =
-      let Right = NameIsRight contents options name in
+      let Right = OperandIsRight contents options (Text name) in
       let says = name_report options.form name in
       let range = range_of mode options in
       let bad = failed_report name (codes "bad name") in
@@ -353,23 +353,24 @@ module _ (contents : Contents) (sure : Bool) where
 
   -- a list that is answered
   listed : (options : CheckOptions) (list : List ℕ) (content : Option (List ℕ)) → contents list ≡ content
-      → Assures contents sure (lines_script options list (answer_of Listed content)) (ListIsRight contents options list)
+      → Assures contents sure (lines_script options list (answer_of Listed content))
+      (ListOperandIsRight contents options (Text list))
   listed options list None is =
-      Assures-said (unread_list_report options list) (ListIsRight contents options list) (inr refl)
+      Assures-said (unread_list_report options list) (ListOperandIsRight contents options (Text list)) (inr refl)
   listed options list (Some text) is =
       Assures-ended (LineIsRight contents options list) (lines_of text)
       (in_turn (line_scripts options list 1 (lines_of text))) (list_end_report options list)
-      (ListIsRight contents options list) (Assures-lines options list 1 (lines_of text))
+      (ListOperandIsRight contents options (Text list)) (Assures-lines options list 1 (lines_of text))
       (λ of right. inl (record { text = text; of_lines = of; has = is; right = right; said_is = refl }))
 
   Assures-list : (options : CheckOptions) (list : List ℕ)
-      → Assures contents sure (list_script options list) (ListIsRight contents options list)
+      → Assures contents sure (list_script options list) (ListOperandIsRight contents options (Text list))
   Assures-list options list = λ answer agrees. elim agrees [
     | inl is ↦ subst (λ (a : Answer). Assures contents sure (lines_script options list a)
-        (ListIsRight contents options list)) (sym is) (listed options list (contents list) refl)
+        (ListOperandIsRight contents options (Text list))) (sym is) (listed options list (contents list) refl)
     | inr is ↦ subst (λ (a : Answer). Assures contents sure (lines_script options list a)
-        (ListIsRight contents options list)) (sym is.0)
-        (Assures-said (unread_list_report options list) (ListIsRight contents options list) (inr refl))
+        (ListOperandIsRight contents options (Text list))) (sym is.0)
+        (Assures-said (unread_list_report options list) (ListOperandIsRight contents options (Text list)) (inr refl))
   ]
 
   Assures-list_operand : (options : CheckOptions) (list : Operand)

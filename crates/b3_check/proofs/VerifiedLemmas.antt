@@ -122,11 +122,7 @@ ListIsVerified-from_right contents options (Text list ∷ lists) (one ∷ said) 
       ap (λ (p : Report). p.tally.failed) has.said_is in
       let lines = LineIsVerified-from_right contents options list (lines_of has.text) has.of_lines has.right
       (omega (arith, none, counted)) in (
-        record {
-          text = has.text;
-          has = has.has;
-          lines = All-from_recursion (LineIsVerified contents options) (lines_of has.text) lines;
-        },
+        (has.text, has.has, All-from_recursion (LineIsVerified contents options) (lines_of has.text) lines),
         ListIsVerified-from_right contents options lists said right.1 (omega (arith, none)) (omega (arith, no_list)),
       )
   | inr unread ↦

@@ -1,5 +1,5 @@
 -- The script of a run that checks lists of check lines.
-use Rattle.std.specs.Prelude.{ℕ, ◌+◌, ◌==◌, ◌&&◌, ◌||◌, Bool, if◌then◌else◌, List, [], ◌∷◌, ◌++◌, Option, None, Some, Result, Ok, Err, bytes_eq, codes, decimal, map}
+use Rattle.std.specs.Prelude.{ℕ, ◌+◌, ◌==◌, ◌&&◌, ◌||◌, if◌then◌else◌, List, [], ◌∷◌, ◌++◌, Option, None, Some, Result, Ok, Err, bytes_eq, codes, decimal, map}
 use Rattle.std.specs.Option.{option_map_or}
 use Rattle.hex.specs.Hex.{decode_of}
 use Rattle.b3_lines.specs.Lines.{lines_of}
@@ -127,25 +127,15 @@ line_scripts options list number (line ∷ lines) =
 abbrev pub unread_list_report : CheckOptions → List ℕ → Report
 unread_list_report options list = err_report options (complaint list (codes "cannot read")) one_list
 
--- whether missing names are passed over, and no name of a list was verified
-abbrev pub lacks_verified : CheckOptions → Tally → Bool
-lacks_verified options tally = options.ignore_missing && is_unverified tally
-
--- whether a list is to have a check line, and none was found
-abbrev pub lacks_line : CheckOptions → Tally → Bool
-lacks_line options tally = options.strict && has_no_line tally
-
--- what is said of a list after its lines, by what was counted in them
-abbrev pub list_end : CheckOptions → List ℕ → Tally → List ℕ
-list_end options list tally =
-    (if lacks_verified options tally then complaint list (codes "no file was verified") else [])
-    ++ (if lacks_line options tally then complaint list (codes "no check line found") else [])
-
--- the list fails for either
+-- what is said of a list after its lines, by what was counted in them: where missing names are passed over and no name
+-- was verified, and where there is to be a check line and there is none; the list fails for either
 abbrev pub list_end_report : CheckOptions → List ℕ → Tally → Report
 list_end_report options list tally =
-    err_report options (list_end options list tally)
-    (if lacks_verified options tally || lacks_line options tally then one_list else no_tally)
+    err_report options
+    ((if options.ignore_missing && is_unverified tally then complaint list (codes "no file was verified") else [])
+    ++ (if options.strict && has_no_line tally then complaint list (codes "no check line found") else []))
+    (if (options.ignore_missing && is_unverified tally) || (options.strict && has_no_line tally) then one_list
+    else no_tally)
 
 abbrev pub list_end_script : CheckOptions → List ℕ → Tally → Script
 list_end_script options list tally = Say (list_end_report options list tally) Done

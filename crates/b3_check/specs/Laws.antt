@@ -26,7 +26,7 @@ use Rattle.b3_check.specs.Operands.{Operand}
 use Rattle.b3_check.specs.Operands.Operand.{Text, NotText}
 use Rattle.b3_check.specs.Scripts.{Report, joined, nothing}
 use Rattle.b3_check.specs.Sinks.{GainsBeginning}
-use Rattle.b3_check.specs.Sums.{digest_text, failed_report, is_bad_name, name_report, not_text, shows_name}
+use Rattle.b3_check.specs.Sums.{digest_report, digest_text, failed_report, is_bad_name, not_text, shows_name}
 use Rattle.b3_check.specs.Tallies.{no_tally, one_differing, one_failed, one_ok, tally_sum}
 
 -- ---- the words
@@ -46,7 +46,8 @@ abbrev pub total : List Report → Report
 total [] = nothing
 total (said ∷ others) = joined said (total others)
 
--- two outputs gained the texts of a report, and the tally is its; at a fault they gained beginnings of the texts
+-- two outputs gained the texts of a report, where they tell their bytes, and the tally is its; at a fault they gained
+-- beginnings of the texts
 abbrev pub Writes : Report → Option (List ℕ) → Option (List ℕ) → Option (List ℕ) → Option (List ℕ)
     → Result Tally RunFault → Type 0
 Writes said out_old out_new err_old err_new (Ok tally) =
@@ -72,18 +73,14 @@ pub record HasLine (contents : Contents) (options : SumOptions) (name : List ℕ
   pub is_mode : IsModeOf contents options.key mode
   pub has : contents name ≡ Some content
   pub can_show : cannot_show options.form name ≡ false
-  pub said_is : said ≡ name_report options.form name (Ok (blake3 mode content options.seek options.length))
+  pub said_is : said ≡ digest_report options.form name (blake3 mode content options.seek options.length)
 
--- a name has its line, or a complaint in its place
-abbrev pub NameIsRight : Contents → SumOptions → List ℕ → Report → Type 0
-NameIsRight contents options name said =
+-- a name has its line, or a complaint in its place; of one that is not text that is said
+abbrev pub OperandIsRight : Contents → SumOptions → Operand → Report → Type 0
+OperandIsRight contents options (Text name) said =
     HasLine contents options name said
     ⊎ ((said ≡ failed_report name (codes "cannot read"))
     ⊎ ((cannot_show options.form name ≡ true) × (said ≡ failed_report name (codes "bad name"))))
-
--- an operand has its name's line or complaint; of one that is not text that is said
-abbrev pub OperandIsRight : Contents → SumOptions → Operand → Report → Type 0
-OperandIsRight contents options (Text name) said = NameIsRight contents options name said
 OperandIsRight contents options (NotText list number) said = said ≡ failed_report list (not_text number)
 
 -- an operand has its name's line
@@ -141,14 +138,10 @@ pub record HasLines (contents : Contents) (options : CheckOptions) (list : List 
   pub right : AllZip (LineIsRight contents options list) (lines_of text) of_lines
   pub said_is : said ≡ joined (total of_lines) (list_end_report options list (total of_lines).tally)
 
--- a list has what is said of its lines, or a complaint in its place
-abbrev pub ListIsRight : Contents → CheckOptions → List ℕ → Report → Type 0
-ListIsRight contents options list said =
-    HasLines contents options list said ⊎ (said ≡ unread_list_report options list)
-
--- an operand has what is said of its list; of one that is not text that is said
+-- a list has what is said of its lines, or a complaint in its place; of one whose name is not text that is said
 abbrev pub ListOperandIsRight : Contents → CheckOptions → Operand → Report → Type 0
-ListOperandIsRight contents options (Text list) said = ListIsRight contents options list said
+ListOperandIsRight contents options (Text list) said =
+    HasLines contents options list said ⊎ (said ≡ unread_list_report options list)
 ListOperandIsRight contents options (NotText names number) said = said ≡ unnamed_list_report options names number
 
 -- each list in order has what is said of its lines or a complaint, then comes the warning, and no more is written
@@ -166,14 +159,9 @@ LineIsVerified contents options line =
     × (IsJust contents entry Good ⊎ ((options.ignore_missing ≡ true) × IsJust contents entry Missing))
 
 -- a list is there, and each of its lines is verified
-pub record ListIsVerified (contents : Contents) (options : CheckOptions) (list : List ℕ) : Type 0 where
-  pub text : List ℕ
-  pub has : contents list ≡ Some text
-  pub lines : All (LineIsVerified contents options) (lines_of text)
-
--- the operand is such a list
 abbrev pub ListOperandIsVerified : Contents → CheckOptions → Operand → Type 0
-ListOperandIsVerified contents options (Text list) = ListIsVerified contents options list
+ListOperandIsVerified contents options (Text list) =
+    (text : List ℕ) × (contents list ≡ Some text) × All (LineIsVerified contents options) (lines_of text)
 ListOperandIsVerified contents options (NotText names number) = ⊥
 
 -- ---- of files that are known: over a shelf that tells its contents, and fails nowhere else
@@ -198,10 +186,6 @@ pub record IsThere (contents : Contents) (file : File) : Type 0 where
   pub is_named : file.name ≢ []
   pub is_lawful : holds_bad_character file.name ≡ false
 
--- a shelf tells that it has just these contents, and fails nowhere else, as one in memory
-abbrev pub IsReliable : Option Contents → Bool → Contents → Type 0
-IsReliable told sure contents = (told ≡ Some contents) × (sure ≡ true)
-
 -- the digests that check lines hold are asked for
 pub record AsksDigests (options : SumOptions) : Type 0 where
   pub key : options.key ≡ Plain
@@ -214,12 +198,6 @@ pub record AsksAll (options : CheckOptions) : Type 0 where
   pub ignore_missing : options.ignore_missing ≡ false
   pub status : options.status ≡ false
   pub strict : options.strict ≡ false
-
--- two outputs gained the texts of a report, where they tell their bytes, and the tally is its
-pub record Wrote (said : Report) (out_old out_new err_old err_new : Option (List ℕ)) (tally : Tally) : Type 0 where
-  pub out : Appends out_old out_new said.out
-  pub err : Appends err_old err_new said.err
-  pub counted : tally ≡ said.tally
 
 -- so many names are ok, and nothing else is counted
 abbrev pub all_ok : ℕ → Tally
@@ -248,26 +226,24 @@ tally_of Unreadable = one_failed
 abbrev pub verdict_over : Contents → Entry → Verdict
 verdict_over contents entry = verdict entry.digest (contents entry.name)
 
--- what is written of it: the name as it stands in the line, and the words
-abbrev pub verdict_line : Contents → Entry → List ℕ
-verdict_line contents entry = entry.shown ++ words_of (verdict_over contents entry) ++ 10 ∷ []
-
 -- what is counted of lines
 abbrev pub counted_over : Contents → List Entry → Tally
 counted_over contents [] = no_tally
 counted_over contents (entry ∷ entries) =
     tally_sum (tally_of (verdict_over contents entry)) (counted_over contents entries)
 
--- what a sum of files says, a check of lines, and a check of the lines of files
+-- what a sum of files says
 abbrev pub sums_of : Form → List File → Report
 sums_of form files = record { out = flat_map (line_of form) files; err = []; tally = all_ok (length files) }
 
+-- what a check of lines says: of each its name as it stands there and the words of its verdict, and then the warning
 abbrev pub verdicts_on : Contents → List Entry → Report
 verdicts_on contents entries = record {
-  out = flat_map (verdict_line contents) entries;
+  out = flat_map (λ entry. entry.shown ++ words_of (verdict_over contents entry) ++ 10 ∷ []) entries;
   err = warning (counted_over contents entries).failed;
   tally = counted_over contents entries;
 }
 
+-- what a check of the lines of files says
 abbrev pub oks_of : List File → Report
 oks_of files = record { out = flat_map ok_of files; err = []; tally = all_ok (length files) }

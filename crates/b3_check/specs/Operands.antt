@@ -11,15 +11,11 @@ pub data Operand : Type 0 where
   Text : List ℕ → Operand
   NotText : List ℕ → ℕ → Operand
 
--- the piece of this number of the list of this name
-abbrev pub piece_operand : List ℕ → ℕ → List ℕ → Operand
-piece_operand list number piece = if is_utf8 piece then Text piece else NotText list number
-
--- pieces one after the other, of which the first has this number
+-- pieces of the list of this name, one after the other, of which the first has this number
 abbrev pub operands_from : List ℕ → ℕ → List (List ℕ) → List Operand
 operands_from list number [] = []
 operands_from list number (piece ∷ pieces) =
-    piece_operand list number piece ∷ operands_from list (number + 1) pieces
+    (if is_utf8 piece then Text piece else NotText list number) ∷ operands_from list (number + 1) pieces
 
 -- the operands in a list of names: the pieces of its content that NUL ends, the last perhaps ended by none
 abbrev pub operands_in : List ℕ → List ℕ → List Operand

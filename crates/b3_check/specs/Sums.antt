@@ -6,7 +6,7 @@ use Rattle.b3_core.specs.Modes.{hash_mode, keyed_mode}
 use Rattle.b3_core.specs.declared.modes.Mode.{Mode}
 use Rattle.b3_hash.specs.Derivation.{derived_mode}
 use Rattle.b3_lines.specs.Names.{holds_bad_character}
-use Rattle.b3_lines.specs.Writing.{plain, shown, tagged}
+use Rattle.b3_lines.specs.Writing.{plain_text, shown, tagged_text}
 use Rattle.b3_check.specs.declared.fault.RunFault.TheVariants.{ReadFault, BadKey}
 use Rattle.b3_check.specs.declared.output_range.OutputRange.{OutputRange}
 use Rattle.b3_check.specs.declared.options.SumOptions.{SumOptions}
@@ -49,15 +49,19 @@ shows_name Tagged = true
 
 -- what is written for a digest: a line of either form, the digits and a line feed, or the bytes alone
 abbrev pub digest_text : Form → List ℕ → List ℕ → List ℕ
-digest_text Named digest name = plain digest name
+digest_text Named digest name = plain_text digest name ++ line_feed
 digest_text Bare digest name = encode_lower digest ++ line_feed
 digest_text Raw digest name = digest
-digest_text Tagged digest name = tagged digest name
+digest_text Tagged digest name = tagged_text digest name ++ line_feed
 
--- what is said of a name by its digest, or where it is missing or cannot be read
+-- what is said of a name by its digest
+abbrev pub digest_report : Form → List ℕ → List ℕ → Report
+digest_report form name digest = record { out = digest_text form digest name; err = []; tally = one_ok }
+
+-- the same, or what is said where it is missing or cannot be read
 abbrev pub name_report : Form → List ℕ → Given (List ℕ) → Report
 name_report form name (Err why) = failed_report name (codes "cannot read")
-name_report form name (Ok digest) = record { out = digest_text form digest name; err = []; tally = one_ok }
+name_report form name (Ok digest) = digest_report form name digest
 
 -- the script of one name, which is asked for unless the form shows a name that no line can show
 abbrev pub name_script : Form → OutputRange → List ℕ → Script

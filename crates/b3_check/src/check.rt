@@ -8,7 +8,7 @@ ghost use Rattle.b3_check.specs.Checks.{Entry, check_script, entry_of, lines_scr
 ghost use Rattle.b3_check.specs.Contents.{Contents};
 ghost use Rattle.b3_check.specs.Digests.{line_range};
 ghost use Rattle.b3_check.specs.Faults.{is_write_fault};
-ghost use Rattle.b3_check.specs.Laws.{AsksAll, ChecksRightly, File, IsThere, IsReliable, ListOperandIsVerified, Says, Wrote, oks_of, sums_of, verdicts_on};
+ghost use Rattle.b3_check.specs.Laws.{AsksAll, ChecksRightly, File, IsThere, ListOperandIsVerified, Says, Writes, oks_of, sums_of, verdicts_on};
 ghost use Rattle.b3_check.specs.Operands.{operand_of, operands_left};
 ghost use Rattle.b3_check.specs.Operands.Operand.{Text};
 ghost use Rattle.b3_check.specs.Options.{CanCheck, check_limits};
@@ -85,19 +85,19 @@ pub fn run_check<
 
     // Of a list that is known it writes the verdict on each line, where each says something, in order.
     ensures checks { (contents : Contents) (list text : List ℕ) (entries : List Entry)
-        → IsReliable (S.told shelf.old) (S.is_sure shelf.old) contents
+        → S.told shelf.old ≡ Some contents → S.is_sure shelf.old ≡ true
         → AsksAll options.now → operands_left lists.entry ≡ Text list ∷ []
         → contents list ≡ Some text → AllZip Says (lines_of text) entries
-        → IfOk result (λ tally. Wrote (verdicts_on contents entries)
-        (O.held out.old) (O.held out.new) (E.held err.old) (E.held err.new) tally) }
+        → IfOk result (λ tally. Writes (verdicts_on contents entries)
+        (O.held out.old) (O.held out.new) (E.held err.old) (E.held err.new) (Ok tally)) }
 
     // Of a list that a sum wrote of files that are there it writes that each is ok, in order.
     ensures sums_check { (contents : Contents) (form : Form) (list : List ℕ) (files : List File)
-        → IsReliable (S.told shelf.old) (S.is_sure shelf.old) contents
+        → S.told shelf.old ≡ Some contents → S.is_sure shelf.old ≡ true
         → AsksAll options.now → operands_left lists.entry ≡ Text list ∷ []
         → shows_name form ≡ true → contents list ≡ Some (sums_of form files).out → All (IsThere contents) files
-        → IfOk result (λ tally. Wrote (oks_of files)
-        (O.held out.old) (O.held out.new) (E.held err.old) (E.held err.new) tally) }
+        → IfOk result (λ tally. Writes (oks_of files)
+        (O.held out.old) (O.held out.new) (E.held err.old) (E.held err.new) (Ok tally)) }
 
     // A line says one entry at most.
     ensures one_entry { (line : List ℕ) (entry other : Entry) → Says line entry → Says line other → entry ≡ other }

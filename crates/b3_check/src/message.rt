@@ -5,7 +5,7 @@ ghost use Rattle.std.specs.String.{string_bytes};
 ghost use Rattle.hex.specs.Hex.{encode_lower};
 ghost use Rattle.b3_lines.specs.Writing.{plain, tagged};
 ghost use Rattle.b3_check.specs.Sums.{complaint, digest_text, failed_report, is_bad_name, line_feed, name_report, not_text, shows_name};
-ghost use Rattle.b3_check.specs.Checks.{answer_as, err_report, list_end, list_end_report, refusal, refused_report, unless_silent, unnamed_list_report, unread_list_report, verdict_on, verdict_report, verdict_text, verdict_words, warning_report};
+ghost use Rattle.b3_check.specs.Checks.{answer_as, err_report, list_end_report, refusal, refused_report, unless_silent, unnamed_list_report, unread_list_report, verdict_on, verdict_report, verdict_text, verdict_words, warning_report};
 ghost use Rattle.b3_check.specs.Tasks.{counted, bytes_of, len_of, report_of};
 
 use crate::judging::{Answer, Verdict, judge};

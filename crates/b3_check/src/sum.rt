@@ -1,9 +1,9 @@
 //! The run that writes the digest of each name.
 
-ghost use Rattle.std.specs.Prelude.{◌≡◌, ◌+◌, ◌-◌, ◌^◌, ◌<◌, ◌≤◌, List, All, Some, map, length, IfOk, IfErr, if◌then◌else◌};
+ghost use Rattle.std.specs.Prelude.{◌≡◌, ◌+◌, ◌-◌, ◌^◌, ◌<◌, ◌≤◌, List, All, Ok, Some, true, map, length, IfOk, IfErr, if◌then◌else◌};
 ghost use Rattle.b3_check.specs.Contents.{Contents};
 ghost use Rattle.b3_check.specs.Faults.{is_write_fault};
-ghost use Rattle.b3_check.specs.Laws.{AsksDigests, File, IsThere, IsReliable, SumsRightly, WritesAll, Wrote, sums_of};
+ghost use Rattle.b3_check.specs.Laws.{AsksDigests, File, IsThere, SumsRightly, Writes, WritesAll, sums_of};
 ghost use Rattle.b3_check.specs.Operands.{operands_left};
 ghost use Rattle.b3_check.specs.Operands.Operand.{Text};
 ghost use Rattle.b3_check.specs.Options.{CanRun, limits_of};
@@ -67,10 +67,10 @@ pub fn run_sum<R: Threads + Wait + Sync, S: Shelf + Send + Sync, O: Sink, E: Sin
 
     // Of files that are known it writes the line of each, or its digest, in order.
     ensures sums { (contents : Contents) (files : List File)
-        → IsReliable (S.told shelf.old) (S.is_sure shelf.old) contents
+        → S.told shelf.old ≡ Some contents → S.is_sure shelf.old ≡ true
         → AsksDigests options.now → operands_left operands.entry ≡ map (λ file. Text file.name) files
-        → All (IsThere contents) files → IfOk result (λ tally. Wrote (sums_of options.now.form files)
-        (O.held out.old) (O.held out.new) (E.held err.old) (E.held err.new) tally) }
+        → All (IsThere contents) files → IfOk result (λ tally. Writes (sums_of options.now.form files)
+        (O.held out.old) (O.held out.new) (E.held err.old) (E.held err.new) (Ok tally)) }
 
     // At a fault both sinks gained beginnings of the texts so far, and the fault has its cause.
     ensures fault { IfErr result (λ fault.

@@ -1,5 +1,5 @@
 -- Files that are there, before and after a list is put beside them, and what runs wrote of them.
-use Rattle.std.proofs.Common.{◌≡◌, ◌≢◌, ℕ, Bool, List, [], ◌∷◌, ◌++◌, Some, refl, sym, ◌∙◌, ap, get_or, map, string_bytes}
+use Rattle.std.proofs.Common.{◌≡◌, ◌≢◌, ℕ, Bool, List, [], ◌∷◌, ◌++◌, Some, Ok, refl, sym, ◌∙◌, ap, get_or, map, string_bytes}
 use Rattle.std.specs.Prelude.{All, bytes_eq, if◌then◌else◌}
 use Rattle.std.proofs.lemmas.Bool.{false_from_ne_true}
 use Rattle.std.proofs.lemmas.List.Elements.{All-map}
@@ -7,7 +7,7 @@ use Rattle.std.proofs.lemmas.Slice.Eq.{bytes_eq-Decides}
 use Rattle.std.proofs.lemmas.Str.{IsUtf8-string_bytes}
 use Rattle.b3_check.specs.declared.tally.Tally.{Tally}
 use Rattle.b3_check.specs.Contents.{Contents}
-use Rattle.b3_check.specs.Laws.{File as KnownFile, IsThere, Wrote}
+use Rattle.b3_check.specs.Laws.{File as KnownFile, IsThere, Writes}
 use Rattle.b3_check.specs.MemoryShelves.{Puts}
 use Rattle.b3_check.specs.Scripts.{Report}
 use Rattle.b3_laws.specs.declared.files.File.{File}
@@ -48,8 +48,8 @@ Puts-other old new name text other puts differs =
 -- what empty sinks gained is what was written
 pub report_of-written : (said : Report) (written : Written) (out out₂ err err₂ : List ℕ) (tally : Tally)
     → report_of written ≡ record { out = out₂; err = err₂; tally = tally } → out ≡ [] → err ≡ []
-    → Wrote said (Some out) (Some out₂) (Some err) (Some err₂) tally → report_of written ≡ said
+    → Writes said (Some out) (Some out₂) (Some err) (Some err₂) (Ok tally) → report_of written ≡ said
 report_of-written said written out out₂ err err₂ tally is no_out no_err wrote =
-    let gained : out₂ ≡ said.out = wrote.out ∙ ap (λ t. t ++ said.out) no_out in
-    let complained : err₂ ≡ said.err = wrote.err ∙ ap (λ t. t ++ said.err) no_err in
-    is ∙ (λ i. record { out = gained i; err = complained i; tally = wrote.counted i })
+    let gained : out₂ ≡ said.out = wrote.0 ∙ ap (λ t. t ++ said.out) no_out in
+    let complained : err₂ ≡ said.err = wrote.1 ∙ ap (λ t. t ++ said.err) no_err in
+    is ∙ (λ i. record { out = gained i; err = complained i; tally = wrote.2 i })

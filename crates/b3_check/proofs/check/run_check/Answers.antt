@@ -12,19 +12,20 @@ use Rattle.b3_check.proofs.VerifiedLemmas.{AllVerified-from_right}
 use Rattle.b3_check.proofs.check.run_check.Goals as goal
 
 pub returns-clause-checks : goal.returns-clause-checks
-returns-clause-checks g c contents list text entries knows asks lists_are has says =
+returns-clause-checks g c contents list text entries tells is_sure asks lists_are has says =
     let options = c.args.options.now in
     wrote_surely g.S.Shelf g.O.Sink g.E.Sink contents (check_script options (operands_left c.args.lists))
     c.args.shelf.now c.args.shelf.now c.args.out.now _ c.args.err.now _ c.check_lists.result
-    (verdicts_on contents entries) knows
+    (verdicts_on contents entries) tells is_sure
     (ap (λ (ls : List Operand). report_from contents (check_script options ls)) lists_are
     ∙ report_from-checked options contents list text entries asks has says) (search rules)
 
 pub returns-clause-sums_check : goal.returns-clause-sums_check
-returns-clause-sums_check g c contents form list files knows asks lists_are shows has there =
+returns-clause-sums_check g c contents form list files tells is_sure asks lists_are shows has there =
     let options = c.args.options.now in
     wrote_surely g.S.Shelf g.O.Sink g.E.Sink contents (check_script options (operands_left c.args.lists))
-    c.args.shelf.now c.args.shelf.now c.args.out.now _ c.args.err.now _ c.check_lists.result (oks_of files) knows
+    c.args.shelf.now c.args.shelf.now c.args.out.now _ c.args.err.now _ c.check_lists.result (oks_of files) tells
+    is_sure
     (ap (λ (ls : List Operand). report_from contents (check_script options ls)) lists_are
     ∙ report_from-sums options form contents list files asks shows has
     (recursion_from_All (IsThere contents) files there)) (search rules)

@@ -10,11 +10,11 @@ use Rattle.b3_check.proofs.VerifiedLemmas.{WritesAll-from_right}
 use Rattle.b3_check.proofs.sum.run_sum.Goals as goal
 
 pub returns-clause-sums : goal.returns-clause-sums
-returns-clause-sums g c contents files knows asks operands_are there =
+returns-clause-sums g c contents files tells is_sure asks operands_are there =
     let options = c.args.options.now in
     let operands = operands_left c.args.operands in
     wrote_surely g.S.Shelf g.O.Sink g.E.Sink contents (sum_script options operands) c.args.shelf.now c.args.shelf.now
-    c.args.out.now _ c.args.err.now _ c.sum_names.result (sums_of options.form files) knows
+    c.args.out.now _ c.args.err.now _ c.sum_names.result (sums_of options.form files) tells is_sure
     (report_from-summed options contents files operands asks operands_are
     (recursion_from_All (IsThere contents) files there))
     (search rules)

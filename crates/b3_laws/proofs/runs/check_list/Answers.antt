@@ -11,6 +11,6 @@ returns g c = record {
       report_of-written (oks_of files) c.in_ok-written_to.field-0 _ _ _ _ c.in_ok-tally.tally
       c.in_ok-written_to.ensures c.new-out.ensures.bytes c.new-err.ensures.bytes
       (c.in_ok-tally.ensures.sums_check (shelf_contents c.args.shelf.now) Named (string_bytes c.args.list) files
-      (refl, refl) (record { quiet = refl; ignore_missing = refl; status = refl; strict = refl })
+      refl refl (record { quiet = refl; ignore_missing = refl; status = refl; strict = refl })
       c.given-operands.ensures refl has there);
 }

@@ -13,5 +13,5 @@ returns-clause-report g c files names_are there =
     ∙ sym (map-Text (λ (file : File). file.name) files) in
     report_of-written (sums_of Named files) c.in_ok-written_to.field-0 _ _ _ _ c.in_ok-tally.tally
     c.in_ok-written_to.ensures c.new-out.ensures.bytes c.new-err.ensures.bytes
-    (c.in_ok-tally.ensures.sums (shelf_contents c.args.shelf.now) files (refl, refl)
+    (c.in_ok-tally.ensures.sums (shelf_contents c.args.shelf.now) files refl refl
     (record { key = refl; seek = refl; length = refl }) operands there)
