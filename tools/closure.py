@@ -5,7 +5,7 @@ fields, patterns, `let`) are not citations.
 """
 
 import re
-from dataclasses import dataclass, field
+from dataclasses import dataclass, field, replace
 from functools import cache
 
 from crates import ROOT, crates_below
@@ -300,6 +300,49 @@ def ghosts_alone(lines, members=()):
     return kept + [lines[-1]]
 
 
+def members(lines):
+    """The members of a declaration, each with the comments above it."""
+    found = []
+    for line in lines:
+        if found and (re.match(r" {4}//", found[-1][-1]) or not re.match(r" {4}\S", line)):
+            found[-1].append(line)
+        else:
+            found.append([line])
+    return found
+
+
+def is_named(member, text):
+    """Whether a text names a field or a ghost member, as in `x.name` or `record { name = .. }`."""
+    name = re.match(r" *(?:pub(?:\([^)]*\))? )?(?:ghost |type )?(\w+)", without_comments("\n".join(member)))[1]
+    return re.search(rf"\.{name}\b|\b{name} = ", text) is not None
+
+
+def names_variant(item, word):
+    """Whether an item names a variant of an enum."""
+    known = spec_file(item.word.place).known() if item.word.kind == "definition" else source_file(item.file).known
+    tokens = TOKEN.findall(without_comments(item.text))
+    return any(it != word.name and known.get(it.split(".")[0]) == word for it in tokens)
+
+
+def without_unnamed(item, items):
+    """A type without the fields and ghost members that none of the items names, or an enum of which none names a
+    variant. `..` stands for what is left out."""
+    lines = item.text.splitlines()
+    start = next(it for it, line in enumerate(lines) if re.match(DECLARED.format(item.word.name), line))
+    if not lines[start].endswith("{"):
+        return item
+    have, text = members(lines[start + 1:-1]), "\n".join(without_comments(it.text) for it in items)
+    if " enum " in f" {lines[start]}":
+        kept = have if any(item.word in it.cites and names_variant(it, item.word) for it in items) else []
+    else:
+        kept = [it for it in have if is_named(it, text)]
+    if len(kept) == len(have):
+        return item
+    body = [line for member in kept for line in member]
+    short = [f"{lines[start]} ..", *body, "}"] if kept else [f"{lines[start]} .. }}"]
+    return replace(item, text="\n".join(lines[:start] + short))
+
+
 def cited_by_code(text, source, bound=frozenset()):
     """What a declaration cites: types in its code, and words in its ghost members and clauses."""
     return cited(re.sub(r"::", ".", without_comments(text)).replace("<", " ").replace(">", " "), source.known, bound)
@@ -343,16 +386,21 @@ class Contract:
         found["self"] = [kind.split(" for ")[-1]] if kind else []
         return found
 
+    def requires(self):
+        return [it for it in self.clauses if it[0] == "requires"]
+
     def chosen(self, names):
-        """The clauses of these names, with all that is required; all clauses where no name is given."""
-        have = {name for kind, name, _ in self.clauses if kind == "ensures"}
+        """The clauses of these names; all that is ensured where no name is given."""
+        ensured = [it for it in self.clauses if it[0] == "ensures"]
+        have = {name for _, name, _ in ensured}
         missing = [name for name in names if name not in have]
         if missing or not have:
             raise NotFound(f"{self.source.path}, {self.name}: no clause `{', '.join(missing) or 'ensures'}`")
-        return [it for it in self.clauses if it[0] == "requires" or not names or it[1] in names]
+        return [it for it in ensured if not names or it[1] in names]
 
-    def item(self, names=()):
-        clauses = self.chosen(names)
+    def item(self, names=(), is_owed=False):
+        """The clauses of these names. What is required belongs to them where the reader owes it."""
+        clauses = (self.requires() if is_owed else []) + self.chosen(names)
         code = without_comments("\n".join(line for _, _, lines in clauses for line in lines))
         required, ensured = ([line for it, _, lines in clauses for line in lines if it == kind]
                              for kind in ("requires", "ensures"))

@@ -10,6 +10,7 @@ TO_TASK = (*TO_CALL, ("b3sum/src/call.rt", "run_call"), ("b3_program/src/run.rt"
            ("b3_program/src/run.rt", "run_task"))
 TO_RUN = (*TO_TASK, ("b3_program/src/run.rt", "run_over_files"), ("b3_program/src/jobs.rt", "run_job"),
           ("b3_program/src/jobs.rt", "run_engine"))
+TO_GIVEN = (*TO_TASK, ("b3_program/src/run.rt", "run_over_files"), ("b3_check/src/operands.rt", "Operands::given"))
 TO_LIST = (*TO_TASK, ("b3_program/src/lists.rt", "run_in_list"), ("b3_program/src/lists.rt", "run_over"),
            ("b3_check/src/operands.rt", "Operands::in_list"))
 TO_SUM = (*TO_RUN, ("b3_check/src/sum.rt", "run_sum"))
@@ -29,8 +30,8 @@ ASSUMED = ("Disk", "DiskFile", "Input", "Stream")
 HANDLES = (r"\bHostRuntime\b|\buse std::(?:fs|os|net|rt|process::[a-z])"
            r"|\buse std::io::(?:\{[^}]*\b)?(?:Read|Write|Seek)\b")
 
-# Types of which a law needs only the fields that the clauses of their calls name.
-OPAQUE = ("FileShelf", "OutputSink")
+# Types, and a word, of which a law needs only what the clauses of their calls say.
+OPAQUE = ("FileShelf", "OutputSink", "Operands", "operands_left")
 
 # The traits that callers of a library implement.
 OWED = ("Gate", "InputLedger", "Source")
@@ -105,10 +106,13 @@ LAWS = (
     Law("What a line says",
         "No line says two things: a verdict is on the one digest and the one name that its line reads as.",
         (Clauses("b3_check/src/check.rt", "run_check", ("one_entry",)),), (TO_CHECK,)),
-    Law("Names in a list",
-        "The names in a list are the pieces of its content that NUL ends, the last perhaps ended by none.",
-        (Clauses("b3_check/src/operands.rt", "Operands::in_list", ("operands",)),
-         Clauses("b3_lines/src/line_ranges.rt", "first_piece", ("are_pieces", "no_other"))), (TO_LIST, TO_NAME)),
+    Law("Which names these are",
+        "The names are those that are given, or those in a list: the pieces of its content that NUL ends, the last "
+        "perhaps ended by none.",
+        (Clauses("b3_check/src/operands.rt", "Operands::given"),
+         Clauses("b3_check/src/operands.rt", "Operands::in_list", ("operands",)),
+         Clauses("b3_lines/src/line_ranges.rt", "first_piece", ("are_pieces", "no_other"))),
+        (TO_GIVEN, TO_LIST, TO_NAME)),
 )
 
 CONTRACT = Law("The program's contract",

@@ -6,7 +6,7 @@ from dataclasses import dataclass, field
 from functools import cache
 from pathlib import Path
 
-from closure import NotFound, closure, source_file
+from closure import NotFound, closure, source_file, without_unnamed
 from laws import ASSUMED, CONTRACT, LAWS, LIBRARIES, OPAQUE, OWED, Clauses, Ghosts
 
 SECONDS_A_LINE = 8
@@ -49,11 +49,12 @@ def root_items(root):
         return [source.contract(root.function).item(root.names)]
     if isinstance(root, Ghosts):
         return [source.block(root.block, root.names)]
-    return [call.item() for call in source.public(root.kind) if any(kind == "ensures" for kind, _, _ in call.clauses)]
+    return [call.item(is_owed=True) for call in source.public(root.kind)
+            if any(kind == "ensures" for kind, _, _ in call.clauses)]
 
 
-def reading_of(law, whole, seen):
-    """The reading of a law, after laws that had these words."""
+def reading_of(law, whole):
+    """The reading of a law, of which nothing is new yet."""
     reading = Reading()
     for root in law.roots:
         try:
@@ -61,40 +62,55 @@ def reading_of(law, whole, seen):
         except NotFound as fault:
             reading.faults.append(str(fault))
     reading.items, reading.kit = closure(reading.roots, whole, OPAQUE)
-    reading.fresh = [it for it in reading.items if it.word not in seen]
     reading.faults += [fault for chain in law.chains for fault in faults_of_chain(chain)]
     return reading
 
 
 def readings(laws, whole):
-    """Each law with its reading, in order."""
-    seen, found = set(), []
-    for law in laws:
-        reading = reading_of(law, whole, seen)
-        seen |= {it.word for it in reading.items}
-        found.append((law, reading))
-    return found
+    """Each law with its reading."""
+    return [(law, reading_of(law, whole)) for law in laws]
+
+
+def shortened(read):
+    """The same readings; of types only what one of their texts names is left, but for the traits that are assumed."""
+    every = {it.word: it for _, reading in read for it in [*reading.roots, *reading.items]}.values()
+    short = {it.word: without_unnamed(it, every) for it in every
+             if it.word.kind == "type" and it.word.name not in ASSUMED}
+    for _, reading in read:
+        reading.items = [short.get(it.word, it) for it in reading.items]
+    return read
+
+
+def in_order(read):
+    """Readings one after the other: to each what is new with it, or of which more is needed than before."""
+    seen = set()
+    for _, reading in read:
+        reading.fresh = [it for it in reading.items if (it.word, it.text) not in seen]
+        seen |= {(it.word, it.text) for it in reading.items}
+    return read
 
 
 @cache
 def of_program():
     """The readings of the laws, and after them that of the program's contract."""
-    return readings((*LAWS, CONTRACT), ASSUMED)
+    return in_order(shortened(readings(LAWS, ASSUMED)) + shortened(readings((CONTRACT,), ASSUMED)))
 
 
 @cache
 def of_libraries():
-    return readings(LIBRARIES, OWED)
+    return in_order(readings(LIBRARIES, OWED))
 
 
 def faults_of_chain(chain):
-    """Which functions of a chain are missing, or do not call the next."""
-    for (file, function), following in zip(chain, [*chain[1:], None]):
+    """Which functions of a chain are missing, or do not call the next; and whether the first requires something."""
+    for place, ((file, function), following) in enumerate(zip(chain, [*chain[1:], None])):
         try:
             contract = source_file(f"crates/{file}").contract(function)
         except NotFound as fault:
             yield str(fault)
             continue
+        if place == 0 and contract.requires():
+            yield f"crates/{file}: `{function}` requires something"
         if following and not contract.calls(following[1]):
             yield f"crates/{file}: `{function}` does not call `{following[1]}`"
 
