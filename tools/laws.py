@@ -15,8 +15,6 @@ TO_LIST = (*TO_TASK, ("b3_program/src/lists.rt", "run_in_list"), ("b3_program/sr
            ("b3_check/src/operands.rt", "Operands::in_list"))
 TO_SUM = (*TO_RUN, ("b3_check/src/sum.rt", "run_sum"))
 TO_CHECK = (*TO_RUN, ("b3_check/src/check.rt", "run_check"))
-TO_NAME = (*TO_CHECK, ("b3_check/src/check.rt", "check_lists"), ("b3_check/src/check.rt", "Checker::check_all"),
-           ("b3_check/src/operands.rt", "Operands::next"), ("b3_lines/src/line_ranges.rt", "first_piece"))
 TO_TEXT = (*TO_SUM, ("b3_check/src/sum.rt", "sum_names"), ("b3_check/src/engine.rt", "Engine::run"),
            ("b3_check/src/engine.rt", "Engine::message_of"), ("b3_check/src/items.rt", "Request::message"),
            ("b3_check/src/message.rt", "Message::of_name"), ("b3_check/src/message.rt", "digest_text"))
@@ -110,9 +108,7 @@ LAWS = (
         "The names are those that are given, or those in a list: the pieces of its content that NUL ends, the last "
         "perhaps ended by none.",
         (Clauses("b3_check/src/operands.rt", "Operands::given"),
-         Clauses("b3_check/src/operands.rt", "Operands::in_list", ("operands",)),
-         Clauses("b3_lines/src/line_ranges.rt", "first_piece", ("are_pieces", "no_other"))),
-        (TO_GIVEN, TO_LIST, TO_NAME)),
+         Clauses("b3_check/src/operands.rt", "Operands::in_list", ("operands",))), (TO_GIVEN, TO_LIST)),
 )
 
 CONTRACT = Law("The program's contract",
@@ -131,6 +127,7 @@ LIBRARIES = (
     Law("Workers", "Each span is claimed once, and the root is that of the input, over every schedule.",
         (Public("b3_board/src/claims.rt"), Public("b3_board/src/workers.rt"), Public("b3_board/src/parallel.rt"),
          Public("b3_board/src/from_source.rt"))),
-    Law("Check lines", "What is written reads back, and each line reads in one way.",
-        (Public("b3_lines/src/writing.rt"), Public("b3_lines/src/tagging.rt"), Public("b3_lines/src/reading.rt"))),
+    Law("Check lines", "What is written reads back, each line reads in one way, and a text has one list of pieces.",
+        (Public("b3_lines/src/writing.rt"), Public("b3_lines/src/tagging.rt"), Public("b3_lines/src/reading.rt"),
+         Public("b3_lines/src/line_ranges.rt"))),
 )
