@@ -84,6 +84,7 @@ impl<'c, R: Threads + Wait + Sync, G: Gate + Sync> Engine<'c, R, G> {
         let mut tally = Tally::none();
         let mut lines = Vec::new(self.alloc);
         let mut prefetch = Prefetch::new(self.alloc, self.limits);
+        expect_names(&*devices.shelf, work);
         while let Some(queued) = prefetch.next(
             &self.pool,
             self.name_hashers.as_mut_slice(),
@@ -134,5 +135,12 @@ impl<'c, R: Threads + Wait + Sync, G: Gate + Sync> Engine<'c, R, G> {
             Err(why) => Err(why),
         };
         Ok(request.message(self.alloc, digest)?)
+    }
+}
+
+// Tells the shelf how many names it is asked for, where it wants to know.
+fn expect_names<'p, S: Shelf, P: WorkItems<'p>>(shelf: &S, work: &P) {
+    if shelf.counts_names() {
+        shelf.expect_names(work.count_hint());
     }
 }

@@ -73,6 +73,9 @@ pub trait WorkItems<'a> {
         ensures fit { IfOk result (λ next. IfSome next (λ item.
             (len : ℕ) → fits self.old len ≡ true → IsFitItem len item)) }
         ensures still_fits { (len : ℕ) → fits self.new len ≡ fits self.old len };
+
+    /// How many items are left, of which nothing is promised.
+    fn count_hint(&self) -> u64;
 }
 
 /// The digest of each name.
@@ -100,6 +103,10 @@ impl<'a> WorkItems<'a> for Names<'a> {
             return Ok(Some(Item::Say(Message::failed(self.alloc, name, "bad name")?)));
         }
         Ok(Some(Item::Ask(Request::Name(self.form, name))))
+    }
+
+    fn count_hint(&self) -> u64 {
+        self.operands.count_hint()
     }
 }
 

@@ -78,4 +78,8 @@ impl<'t> WorkItems<'t> for ListLines<'t> {
             }
         }
     }
+
+    fn count_hint(&self) -> u64 {
+        lines(self.text).count() as u64
+    }
 }

@@ -80,4 +80,13 @@ impl<'a> Operands<'a> {
             Err(_) => Some(Operand::NotText(self.list, number)),
         }
     }
+
+    /// How many are left, of which nothing is promised.
+    pub fn count_hint(&self) -> u64 {
+        let ended = self.text.iter().filter(|byte| **byte == NUL).count() as u64;
+        let is_open = self.text.last().is_some_and(|byte| *byte != NUL);
+        (self.given.len() as u64)
+            .saturating_add(ended)
+            .saturating_add(u64::from(is_open))
+    }
 }

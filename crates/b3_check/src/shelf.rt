@@ -100,4 +100,17 @@ pub trait Shelf {
     fn len_hint(&self) -> u64 {
         0
     }
+
+    /// How many bytes the file of a name has, of which nothing is promised, or 0 where that is not known.
+    fn len_hint_of(&self, _name: &str) -> u64 {
+        0
+    }
+
+    /// Whether the shelf wants to know how many names it is asked for.
+    fn counts_names(&self) -> bool {
+        false
+    }
+
+    /// So many names are asked for from now on, at most.
+    fn expect_names(&self, _count: u64) {}
 }
