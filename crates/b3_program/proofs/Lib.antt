@@ -6,3 +6,5 @@ pub mod Filling
 pub mod RightLemmas
 -- the operands of files and of a list of names, and what is done while that is read
 pub mod ListLemmas
+-- a text without bytes takes no column
+pub mod Widths

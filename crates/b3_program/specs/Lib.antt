@@ -8,3 +8,4 @@ pub mod Said
 pub mod Stops
 pub mod Lists
 pub mod Programs
+pub mod Columns

@@ -231,4 +231,11 @@ impl<D: Disk, I: Input> Shelf for FileShelf<D, I> {
     fn len_hint(&self) -> u64 {
         self.source.len().saturating_sub(self.consumed)
     }
+
+    fn len_hint_of(&self, name: &str) -> u64 {
+        if name == INPUT_NAME {
+            return 0;
+        }
+        self.disk.plain_len(name).unwrap_or(0)
+    }
 }

@@ -2,6 +2,8 @@
 //! status. How the words are read is not known here.
 #![tactic(auto)]
 
+mod clearing_sink;
+mod counting_shelf;
 mod disk;
 mod files;
 mod input;
@@ -10,6 +12,8 @@ mod lists;
 mod lookup;
 mod memory_disk;
 mod outputs;
+mod progress;
+mod progress_text;
 mod real_disk;
 mod retrying;
 mod run;
@@ -20,10 +24,14 @@ mod task;
 mod usage;
 mod words;
 
+pub use clearing_sink::ClearingSink;
+pub use counting_shelf::CountingShelf;
 pub use disk::{Disk, DiskFile, Input, Stream};
 pub use files::FileShelf;
 pub use memory_disk::{MemoryDisk, MemoryFile, NamedFile};
 pub use outputs::OutputSink;
+pub use progress::Progress;
+pub use progress_text::{Counts, progress_line};
 pub use real_disk::{INPUT_PATHS, InputPaths, RealDisk, RealFile, RealInput};
 pub use run::run_words;
 pub use stop::Stop;

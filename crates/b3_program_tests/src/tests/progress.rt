@@ -1,0 +1,176 @@
+// The line of progress: what it says, when it comes, and that it goes away.
+
+use b3_check::{MemoryShelf, Shelf, Sink};
+use b3_program::{ClearingSink, CountingShelf, Counts, OutputSink, Progress, progress_line};
+use std::cell::{Cell, RefCell};
+use std::io::{self, ErrorKind, Write};
+use std::rt::Clock;
+use std::test::Fail;
+use std::time::Duration;
+
+const GIB: u64 = 1 << 30;
+
+// Half of a file is read, in a second.
+const HALF: Counts = Counts {
+    bytes: GIB / 2,
+    known_bytes: GIB,
+    names: 3,
+    known_names: 4,
+    all_names: 4,
+    millis: 1_000,
+};
+
+const NOTHING: Counts = Counts {
+    bytes: 0,
+    known_bytes: 0,
+    names: 0,
+    known_names: 0,
+    all_names: 1,
+    millis: 0,
+};
+
+const MOST: Counts = Counts {
+    bytes: u64::MAX / 100,
+    known_bytes: u64::MAX,
+    names: u64::MAX,
+    known_names: u64::MAX,
+    all_names: u64::MAX,
+    millis: u64::MAX,
+};
+
+#[test]
+fn lines(rt: HostRuntime) -> Result<(), Fail> {
+    let rows = [
+        (NOTHING, "a", "0 B, 0 B/s, 0 of 1: a"),
+        (
+            HALF,
+            "a",
+            "512.0 MiB of 1.0 GiB, 50%, 512.0 MiB/s, 0:01 left, 3 of 4: a",
+        ),
+        // The lengths of three names are not known.
+        (
+            Counts {
+                known_names: 1,
+                ..HALF
+            },
+            "a",
+            "512.0 MiB of ~4.0 GiB, 12%, 512.0 MiB/s, 0:07 left, 3 of 4: a",
+        ),
+        // A pipe tells no length.
+        (
+            Counts {
+                known_bytes: 0,
+                ..HALF
+            },
+            "a",
+            "512.0 MiB, 512.0 MiB/s, 3 of 4: a",
+        ),
+        (
+            Counts {
+                known_bytes: 10_000 * GIB + 1_023,
+                ..HALF
+            },
+            "a",
+            "512.0 MiB of 9.7 TiB, 0%, 512.0 MiB/s, 5:33:19 left, 3 of 4: a",
+        ),
+        // The end of a name, what moves the cursor, and characters of two columns, of which none is cut.
+        (
+            HALF,
+            "folder/name of a file\n\u{1b}",
+            "512.0 MiB of 1.0 GiB, 50%, 512.0 MiB/s, 0:01 left, 3 of 4: der/name of a file??",
+        ),
+        (
+            HALF,
+            "一二三四五六七八九十一二三四.",
+            "512.0 MiB of 1.0 GiB, 50%, 512.0 MiB/s, 0:01 left, 3 of 4: 六七八九十一二三四.",
+        ),
+        // The greatest numbers: the line is cut.
+        (
+            MOST,
+            "a",
+            "163.8 PiB of 15.9 EiB, 0%, 1 B/s, 5072854620270126:41:39 left, 1844674407370955",
+        ),
+    ];
+    for (counts, name, text) in rows {
+        let line = progress_line(rt.alloc(), &counts, name)?;
+        assert_eq!(rt; line.as_str(), text);
+    }
+    Ok(())
+}
+
+// A clock that goes on by 150 milliseconds each time that it is read.
+#[derive(Drop)]
+struct StepClock {
+    millis: Cell<u64>,
+}
+
+impl Clock for StepClock {
+    fn monotonic(&self) -> io::Result<Duration> {
+        let millis = self.millis.get();
+        self.millis.set(millis.wrapping_add(150));
+        Ok(Duration::from_millis(millis))
+    }
+
+    fn since_1970(&self) -> io::Result<Duration> {
+        self.monotonic()
+    }
+}
+
+// One of several writers to the same screen.
+#[derive(Drop)]
+struct Screen<'a> {
+    written: &'a RefCell<String>,
+}
+
+impl Write for Screen<'_> {
+    fn write(&mut self, buf: &[u8]) -> io::Result<usize> {
+        let (Ok(mut written), Ok(text)) = (self.written.try_borrow_mut(), str::from_utf8(buf))
+        else {
+            return Err(io::Error::from(ErrorKind::Other));
+        };
+        written.push_str(text)?;
+        Ok(buf.len())
+    }
+
+    fn flush(&mut self) -> io::Result<()> {
+        Ok(())
+    }
+}
+
+// One line in a fifth of a second, which goes away before anything else is written.
+#[test]
+fn a_line_comes_and_goes(rt: HostRuntime) -> Result<(), Fail> {
+    let alloc = rt.alloc();
+    let written = RefCell::new(String::new(alloc));
+    let screen = Screen { written: &written };
+    let clock = StepClock {
+        millis: Cell::new(0),
+    };
+    let progress = Progress::new(alloc, clock, screen, true);
+    let mut files = MemoryShelf::new(alloc);
+    files.put("a", b"bytes")?;
+    let mut shelf = CountingShelf::new(alloc, files, &progress);
+    let output = OutputSink::new(Screen { written: &written });
+    let mut sink = ClearingSink::new(output, true, &progress);
+    let mut buffer = [0; 2];
+    // Nothing is shown before it is asked for.
+    assert_eq!(rt; shelf.begin("a"), Ok(()));
+    assert_eq!(rt; shelf.read(&mut buffer), Ok(2));
+    progress.show_if(true);
+    shelf.expect_names(2);
+    assert_eq!(rt; shelf.begin("a"), Ok(()));
+    assert_eq!(rt; shelf.read(&mut buffer), Ok(2));
+    // Too soon for another one.
+    assert_eq!(rt; shelf.read(&mut buffer), Ok(2));
+    assert_eq!(rt; sink.write(b"said\n"), Ok(5));
+    assert_eq!(rt; sink.write(b"more\n"), Ok(5));
+    assert_eq!(rt; shelf.read(&mut buffer), Ok(1));
+    progress.clear();
+    progress.clear();
+    let due = "\r2 B of ~10 B, 20%, 6 B/s, 0:01 left, 0 of 2: a\x1b[K\
+               \r\x1b[Ksaid\nmore\n\
+               \r5 B of ~10 B, 50%, 6 B/s, 0:00 left, 0 of 2: a\x1b[K\
+               \r\x1b[K";
+    assert!(rt; written.try_borrow().is_ok_and(|seen| seen.as_str() == due));
+    Ok(())
+}
