@@ -5,7 +5,7 @@ _b3sum() {
     local word=${COMP_WORDS[COMP_CWORD]} previous=${COMP_WORDS[COMP_CWORD - 1]} earlier
     local options=(
         -c --check --quiet --ignore-missing --status --strict -w --warn --keyed --derive-key -l --length --seek --raw
-        --no-names --tag --files0-from --num-threads --no-mmap -h --help -V --version
+        --no-names --tag --files0-from --num-threads --progress --no-mmap -h --help -V --version
     )
     # Where nothing is suggested here, the defaults below suggest files.
     COMPREPLY=()

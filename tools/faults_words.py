@@ -40,7 +40,7 @@ def words_of_sums(faults):
     faults.row("no bytes at the end of the output", ["--seek", LAST_PLACE, "--length", "0"], "  -\n")
     faults.row("the last byte of the output", ["--seek", str(int(LAST_PLACE) - 1), "-l", "1"],
                re.compile(rb"[0-9a-f]{2}  -\n"))
-    faults.row("words that change nothing", ["--no-mmap", "--num-threads", "65535", "e"], f"{Z0}  e\n")
+    faults.row("words that change nothing", ["--no-mmap", "--progress", "--num-threads", "65535", "e"], f"{Z0}  e\n")
     faults.row("no threads means the usual number", ["--num-threads", "0", "e"], f"{Z0}  e\n")
 
 
@@ -80,7 +80,7 @@ def refused_words(faults):
 def help_and_version(faults):
     """The texts of help and version; the limits in the help are those of the manual page."""
     told = ("-c", *EXCLUDED, "-l", "--quiet", "--ignore-missing", "--status", "--strict", "-w, --warn", "--files0-from",
-            "--num-threads", "--no-mmap", "--help", "--version", "FILE")
+            "--num-threads", "--progress", "--no-mmap", "--help", "--version", "FILE")
     help_text = re.compile("".join(f"(?=.*{word})" for word in told).encode() + rb".+\n", re.DOTALL)
     for word, out in (("--help", help_text), ("-h", help_text), ("--version", VERSION), ("-V", VERSION)):
         faults.row(word, [word], out)

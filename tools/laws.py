@@ -29,7 +29,7 @@ HANDLES = (r"\bHostRuntime\b|\buse std::(?:fs|os|net|rt|process::[a-z])"
            r"|\buse std::io::(?:\{[^}]*\b)?(?:Read|Write|Seek)\b")
 
 # Types, and a word, of which a law needs only what the clauses of their calls say.
-OPAQUE = ("FileShelf", "OutputSink", "Operands", "operands_left")
+OPAQUE = ("ClearingSink", "CountingShelf", "FileShelf", "OutputSink", "Operands", "operands_left")
 
 # The traits that callers of a library implement.
 OWED = ("Gate", "InputLedger", "Source")
@@ -82,12 +82,18 @@ LAWS = (
         (Clauses("b3_check/src/sum.rt", "run_sum", ("all_written",)),
          Clauses("b3_check/src/check.rt", "run_check", ("all_verified",))), (TO_SUM, TO_CHECK)),
     Law("Which contents these are",
-        "The program's shelf tells what its disk and its input tell, and its outputs tell what their writers hold.",
+        "The program's shelf tells what its disk and its input tell, and its outputs tell what their writers hold, "
+        "wrapped for progress or not.",
         (Ghosts("b3_program/src/files.rt", "Shelf for FileShelf", ("told", "is_sure")),
          Clauses("b3_program/src/files.rt", "FileShelf::new", ("disk", "input")),
+         Ghosts("b3_program/src/counting_shelf.rt", "Shelf for CountingShelf", ("told", "is_sure")),
+         Clauses("b3_program/src/counting_shelf.rt", "CountingShelf::new"),
          Ghosts("b3_program/src/outputs.rt", "Sink for OutputSink", ("held",)),
          Clauses("b3_program/src/outputs.rt", "OutputSink::new", ("writer",)),
-         Clauses("b3_program/src/outputs.rt", "OutputSink::into_writer")), (TO_SHELF, TO_OUTPUT)),
+         Clauses("b3_program/src/outputs.rt", "OutputSink::into_writer"),
+         Ghosts("b3_program/src/clearing_sink.rt", "Sink for ClearingSink", ("held",)),
+         Clauses("b3_program/src/clearing_sink.rt", "ClearingSink::new"),
+         Clauses("b3_program/src/clearing_sink.rt", "ClearingSink::into_inner")), (TO_SHELF, TO_OUTPUT)),
     Law("Sums",
         "Over files that are known and do not fail, the line of each is written in order, and no more.",
         (Clauses("b3_check/src/sum.rt", "run_sum", ("sums",)),), (TO_SUM,)),

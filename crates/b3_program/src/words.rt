@@ -35,8 +35,17 @@ pub struct Words {
     pub num_threads: Option<u16>,
     /// The list in which the names of the files are.
     pub files0_from: Option<String>,
+    /// A line on the terminal shows how far the run is.
+    pub progress: bool,
     /// The files, as they were given.
     pub files: Vec<String>,
     ghost length_in_range: { ForSome length (λ n. n ≤ max_output_len) },
     ghost files_in_range: { vec_len files ≤ 2 ^ 30 },
+}
+
+impl Words {
+    /// Whether progress is to be shown: not where nothing is written.
+    pub fn wants_progress(&self) -> bool {
+        self.progress && !self.status
+    }
 }

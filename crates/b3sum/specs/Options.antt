@@ -44,6 +44,7 @@ abbrev pub running : List Rule
 running =
     option (codes "files0-from")
     ∷ number (codes "num-threads") (Signed (pos 0) (pos 65535))
+    ∷ flag (codes "progress")
     ∷ flag (codes "no-mmap")
     ∷ []
 

@@ -50,6 +50,7 @@ pub record AreOf (rows : List Row) (words : Words) : Type 0 where
   pub warn : IsFlag (one_of (codes "warn") rows) words.warn
   pub num_threads : IsNumber 16 (one_of (codes "num-threads") rows) words.num_threads
   pub files0_from : option_map string_bytes words.files0_from ≡ first_of (codes "files0-from") rows
+  pub progress : IsFlag (one_of (codes "progress") rows) words.progress
   pub files : map string_bytes words.files.items ≡ files_in rows
 
 -- `clap` finds no fault in what was given, and the words are what it reads there

@@ -8,10 +8,13 @@ ghost use Rattle.b3sum.specs.Calls.{AreWordsOf, CallsWith, EndsCall, IsStopOf, t
 use crate::words::read_words;
 use b3_board::Gate;
 use b3_check::{Shelf, Sink};
-use b3_program::{Disk, FileShelf, Input, OutputSink, Stop, Words, run_words};
+use b3_program::{
+    ClearingSink, CountingShelf, Disk, FileShelf, Input, OutputSink, Progress, Stop, Words,
+    run_words,
+};
 use std::alloc::Global;
 use std::io::{self, IsTerminal, Write};
-use std::rt::{Stderr, Stdout};
+use std::rt::{Clock, Stderr, Stdout};
 use std::sync::Wait;
 use std::thread::Threads;
 
@@ -34,12 +37,14 @@ pub struct Called<O, E> {
 }
 
 /// Does what the arguments of a call ask for, over a disk, an input and two outputs.
+///
+/// The line of progress goes through a second handle of standard error: the outputs hold what is said, and no line.
 pub fn call_with<
-    R: Threads + Wait + Sync,
+    R: Threads + Wait + Clock + Sync,
     D: Disk + Drop + Send + Sync,
     I: Input + Send + Sync,
     O: Write + IsTerminal + StandardOutput,
-    E: Write + StandardError,
+    E: Write + IsTerminal + StandardError + Copy + Send,
     G: Gate + Sync,
 >(
     rt: &R,
@@ -59,21 +64,36 @@ where
         (contents_with (D.contents disk) (rest_of I.content I.position input)))
         (O.contents out) (E.contents err) (O.contents result.out) (E.contents result.err) result.status }
 {
-    let mut shelf = FileShelf::new(disk, input);
     // Over a terminal each line is seen as soon as it is due.
     let is_gathering = !out.is_terminal();
-    let mut out = OutputSink::new(out).gathering(is_gathering);
-    let mut err = OutputSink::new(err);
-    let status = run_call(rt, alloc, arguments, &mut shelf, &mut out, &mut err, gate);
+    let is_terminal = err.is_terminal();
+    let progress = Progress::new(alloc, rt, err, is_terminal);
+    let mut shelf = CountingShelf::new(alloc, FileShelf::new(disk, input), &progress);
+    let out = OutputSink::new(out).gathering(is_gathering);
+    let mut out = ClearingSink::new(out, !is_gathering, &progress);
+    let mut err = ClearingSink::new(OutputSink::new(err), is_terminal, &progress);
+    let status = run_call(
+        rt, alloc, arguments, &mut shelf, &mut out, &mut err, gate, &progress,
+    );
+    progress.clear();
     Called {
         status,
-        out: out.into_writer(),
-        err: err.into_writer(),
+        out: out.into_inner().into_writer(),
+        err: err.into_inner().into_writer(),
     }
 }
 
-/// Does what the arguments of a call ask for, and answers the status of the program.
-pub fn run_call<R: Threads + Wait + Sync, S: Shelf + Send + Sync, O: Sink, E: Sink, G: Gate + Sync>(
+/// Does what the arguments of a call ask for, and answers the status of the program. Where they ask for it, progress is
+/// shown from then on.
+pub fn run_call<
+    R: Threads + Wait + Sync,
+    S: Shelf + Send + Sync,
+    O: Sink,
+    E: Sink,
+    G: Gate + Sync,
+    C: Clock,
+    W: Write,
+>(
     rt: &R,
     alloc: Global,
     arguments: io::Result<Vec<String>>,
@@ -81,6 +101,7 @@ pub fn run_call<R: Threads + Wait + Sync, S: Shelf + Send + Sync, O: Sink, E: Si
     out: &mut O,
     err: &mut E,
     gate: &G,
+    progress: &Progress<C, W>,
 ) -> u8
     requires shelf_failures { S.failures shelf.old < 2 ^ 63 }
     requires out_failures { O.failures out.old < 2 ^ 63 }
@@ -90,7 +111,10 @@ pub fn run_call<R: Threads + Wait + Sync, S: Shelf + Send + Sync, O: Sink, E: Si
         (io_state S.Shelf O.Sink E.Sink shelf.new out.new err.new) result }
 {
     match read_arguments(alloc, arguments) {
-        Ok(words) => run_words(rt, alloc, shelf, words, out, err, gate),
+        Ok(words) => {
+            progress.show_if(words.wants_progress());
+            run_words(rt, alloc, shelf, words, out, err, gate)
+        }
         Err(stop) => stop.say(out, err),
     }
 }

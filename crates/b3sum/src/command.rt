@@ -90,6 +90,7 @@ fn with_running<'a>(command: Command<'a>, alloc: Global) -> Result<Command<'a>, 
     command
         .arg(files0_from(alloc))?
         .arg(num_threads(alloc))?
+        .arg(progress(alloc))?
         .arg(no_mmap(alloc))
 }
 
@@ -240,6 +241,16 @@ fn num_threads<'a>(alloc: Global) -> Arg<'a>
         .value_name("N")
         .value_parser(value_parser!(u16))
         .help("Hash with N threads, at most 64; 4 where N is 0, and without it")
+}
+
+fn progress<'a>(alloc: Global) -> Arg<'a>
+    ensures { rule_of result ≡ spec.flag (codes "progress") }
+{
+    flag(
+        alloc,
+        "progress",
+        "Show how far the run is, where standard error is a terminal",
+    )
 }
 
 fn no_mmap<'a>(alloc: Global) -> Arg<'a>

@@ -56,6 +56,7 @@ fn words_of(alloc: Global, matches: &ArgMatches) -> Result<Words, Stop>
         warn: matches.get_flag("warn"),
         num_threads: matches.get_one::<u16>("num-threads"),
         files0_from: value_of(alloc, matches, "files0-from")?,
+        progress: matches.get_flag("progress"),
         files,
     })
 }

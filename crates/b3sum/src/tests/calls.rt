@@ -5,12 +5,18 @@ ghost use Rattle.std.specs.Prelude.{◌≡◌, IfOk};
 use crate::call::run_call;
 use b3_board::OpenGate;
 use b3_check::{MemoryShelf, MemorySink, Shelf, Sink};
-use b3_program::{FileShelf, MemoryFile, OutputSink, RealDisk};
+use b3_program::{FileShelf, MemoryFile, OutputSink, Progress, RealDisk};
 use std::alloc::{AllocError, Global};
 use std::io;
 use std::process::Abort;
+use std::rt::Clock;
 use std::sync::Wait;
 use std::thread::Threads;
+
+// Progress that is never shown.
+fn silent<R: Clock>(rt: &R, alloc: Global) -> Progress<&R, Vec<u8>> {
+    Progress::new(alloc, rt, Vec::new(alloc), false)
+}
 
 const EMPTY_LINE: &[u8] = b"af1349b9f5f9a1a6a0404dea36dcc9499bcb25c9adc112b7cc9a93cae41f3262  -\n";
 
@@ -25,7 +31,7 @@ fn arguments(alloc: Global, words: &[&str]) -> Result<Vec<String>, AllocError> {
 }
 
 /// A call over this shelf, which writes these texts and ends with this status.
-pub fn assert_call<R: Abort + Threads + Wait + Sync, S: Shelf + Send + Sync>(
+pub fn assert_call<R: Abort + Threads + Wait + Clock + Sync, S: Shelf + Send + Sync>(
     rt: &R,
     alloc: Global,
     shelf: &mut S,
@@ -47,6 +53,7 @@ pub fn assert_call<R: Abort + Threads + Wait + Sync, S: Shelf + Send + Sync>(
         &mut out_sink,
         &mut err_sink,
         &OpenGate,
+        &silent(rt, alloc),
     );
     assert_eq!(rt; out_sink.bytes(), out);
     assert_eq!(rt; err_sink.bytes(), err);
@@ -416,6 +423,7 @@ fn arguments_that_cannot_be_had(rt: HostRuntime) {
             &mut out,
             &mut err,
             &OpenGate,
+            &silent(&rt, rt.alloc()),
         );
         assert!(rt; out.bytes().is_empty());
         assert_eq!(rt; err.bytes(), text.as_bytes());
@@ -424,7 +432,7 @@ fn arguments_that_cannot_be_had(rt: HostRuntime) {
 }
 
 // A call with these words, whose output takes three bytes.
-fn assert_cut_short<R: Abort + AllocGlobal + Threads + Wait + Sync, S: Shelf + Send + Sync>(
+fn assert_cut_short<R: Abort + AllocGlobal + Threads + Wait + Clock + Sync, S: Shelf + Send + Sync>(
     rt: &R,
     shelf: &mut S,
     words: &[&str],
@@ -435,7 +443,17 @@ fn assert_cut_short<R: Abort + AllocGlobal + Threads + Wait + Sync, S: Shelf + S
     let mut out = OutputSink::new(buffer.as_mut_slice());
     let mut err = MemorySink::new(rt.alloc());
     let words = Ok(arguments(rt.alloc(), words)?);
-    let ended = run_call(rt, rt.alloc(), words, shelf, &mut out, &mut err, &OpenGate);
+    let silent = silent(rt, rt.alloc());
+    let ended = run_call(
+        rt,
+        rt.alloc(),
+        words,
+        shelf,
+        &mut out,
+        &mut err,
+        &OpenGate,
+        &silent,
+    );
     assert_eq!(rt; err.bytes(), b"b3sum: cannot write\n".as_slice());
     assert_eq!(rt; ended, 1);
     Ok(())

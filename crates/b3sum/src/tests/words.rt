@@ -31,7 +31,7 @@ fn assert_refused(rt: &impl Abort, alloc: Global, words: &[&str], part: &str) {
 fn no_words(rt: HostRuntime) -> Result<(), Stop> {
     let words = read(rt.alloc(), &[])?;
     assert!(rt; !words.check && !words.keyed && !words.raw && !words.no_names && !words.quiet);
-    assert!(rt; !words.tag && words.derive_key.is_none());
+    assert!(rt; !words.tag && words.derive_key.is_none() && !words.progress);
     assert!(rt; !words.ignore_missing && !words.status && !words.strict && !words.warn);
     assert_eq!(rt; words.length, None);
     assert_eq!(rt; words.seek, None);
@@ -40,7 +40,7 @@ fn no_words(rt: HostRuntime) -> Result<(), Stop> {
     Ok(())
 }
 
-const ALL: [&str; 25] = [
+const ALL: [&str; 26] = [
     "-c",
     "a",
     "--keyed",
@@ -62,6 +62,7 @@ const ALL: [&str; 25] = [
     "names",
     "--num-threads",
     "0",
+    "--progress",
     "--no-mmap",
     "--",
     "-b",
@@ -73,6 +74,7 @@ fn all_words(rt: HostRuntime) -> Result<(), Stop> {
     let words = read(rt.alloc(), &ALL)?;
     assert!(rt; words.check && words.keyed && words.raw && words.no_names && words.quiet);
     assert!(rt; words.tag && words.ignore_missing && words.status && words.strict && words.warn);
+    assert!(rt; words.progress);
     assert_eq!(rt; words.seek, Some(7));
     assert!(rt; words.derive_key == Some(String::from_str(rt.alloc(), "a context")?));
     assert_eq!(rt; words.length, Some(0));
@@ -196,6 +198,7 @@ fn words_of_a_sum(alloc: Global, tag: bool, no_names: bool) -> Words {
         warn: false,
         num_threads: None,
         files0_from: None,
+        progress: false,
         files: Vec::new(alloc),
     }
 }

@@ -36,5 +36,7 @@ returns-clause-words c =
           c.get_flag-10.ensures.none c.get_flag-10.ensures.value c.get_flag-10.ensures.other;
       num_threads = number_read found (codes "num-threads") 16 _ c.get_one-3.ensures.none c.get_one-3.ensures.value;
       files0_from = c.in_ok-value_of-2.ensures;
+      progress = flag_read found (codes "progress") _
+          c.get_flag-11.ensures.none c.get_flag-11.ensures.value c.get_flag-11.ensures.other;
       files = c.in_ok-files.ensures;
     }
