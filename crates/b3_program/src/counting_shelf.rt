@@ -80,7 +80,7 @@ impl<S: Shelf, C: Clock, W: Write> Shelf for CountingShelf<'_, S, C, W> {
             set_text(&mut self.name, name);
             self.bytes_before = self.progress.begin_name();
             if self.progress.has_waiting() {
-                self.progress.end_wait(self.inner.len_hint());
+                self.progress.end_wait(self.inner.len_hint_of(name));
             }
         }
         begun

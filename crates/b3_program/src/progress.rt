@@ -151,7 +151,7 @@ impl<C: Clock, W: Write> Progress<C, W> {
         self.waiting_names.load(Ordering::SeqCst) > 0
     }
 
-    /// The turn of the first name that waits has come, which has this length by now.
+    /// The turn of the first name that waits has come, which tells this length by now.
     pub fn end_wait(&self, len: u64) {
         let names = self.waiting_names.load(Ordering::SeqCst).saturating_sub(1);
         let bytes = self

@@ -6,11 +6,11 @@ ghost use Rattle.b3_program.specs.Columns.{columns_of};
 use std::alloc::{AllocError, Global};
 use unicode_width::UnicodeWidthStr;
 
-/// How many columns a line takes at most: one less than the least terminals have, so that the cursor stays on it.
+/// How many columns a line takes at most: one less than terminals have, so that the cursor stays on it.
 const MAX_COLUMNS: usize = 79;
 
 /// What was done of a run, and what is known to be done.
-#[derive(Clone, Copy, Debug, PartialEq, Eq)]
+#[derive(Clone, Copy)]
 pub struct Counts {
     /// How many bytes were read.
     pub bytes: u64,

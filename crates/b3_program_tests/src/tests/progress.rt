@@ -1,6 +1,7 @@
 // The line of progress: what it says, when it comes, and that it goes away.
 
-use b3_check::{MemoryShelf, Shelf, Sink};
+use super::steps::{Asked, Step};
+use b3_check::{MemoryShelf, Sink};
 use b3_program::{ClearingSink, CountingShelf, Counts, OutputSink, Progress, progress_line};
 use std::cell::{Cell, RefCell};
 use std::io::{self, ErrorKind, Write};
@@ -149,23 +150,18 @@ fn a_line_comes_and_goes(rt: HostRuntime) -> Result<(), Fail> {
     let progress = Progress::new(alloc, clock, screen, true);
     let mut files = MemoryShelf::new(alloc);
     files.put("a", b"bytes")?;
-    let mut shelf = CountingShelf::new(alloc, files, &progress);
+    let mut shelf = Asked::new(CountingShelf::new(alloc, files, &progress));
     let output = OutputSink::new(Screen { written: &written });
     let mut sink = ClearingSink::new(output, true, &progress);
-    let mut buffer = [0; 2];
     // Nothing is shown before it is asked for.
-    assert_eq!(rt; shelf.begin("a"), Ok(()));
-    assert_eq!(rt; shelf.read(&mut buffer), Ok(2));
+    shelf.assert(&rt, &[Step::Begin("a", Ok(())), Step::Read(2, Ok(b"by"))]);
     progress.show_if(true);
-    shelf.expect_names(2);
-    assert_eq!(rt; shelf.begin("a"), Ok(()));
-    assert_eq!(rt; shelf.read(&mut buffer), Ok(2));
-    // Too soon for another one.
-    assert_eq!(rt; shelf.read(&mut buffer), Ok(2));
+    progress.expect_names(2);
+    // It is too soon for another line at the second read.
+    shelf.assert(&rt, &[Step::Begin("a", Ok(())), Step::Read(2, Ok(b"by")), Step::Read(2, Ok(b"te"))]);
     assert_eq!(rt; sink.write(b"said\n"), Ok(5));
     assert_eq!(rt; sink.write(b"more\n"), Ok(5));
-    assert_eq!(rt; shelf.read(&mut buffer), Ok(1));
-    progress.clear();
+    shelf.assert(&rt, &[Step::Read(2, Ok(b"s"))]);
     progress.clear();
     let due = "\r2 B of ~10 B, 20%, 6 B/s, 0:01 left, 0 of 2: a\x1b[K\
                \r\x1b[Ksaid\nmore\n\
