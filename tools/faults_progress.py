@@ -68,25 +68,23 @@ class Screen:
 
 
 @contextmanager
-def fed_slowly(*names):
-    """FIFOs with a writer each, which takes its time."""
+def fed_slowly(name):
+    """A FIFO with a writer that takes its time."""
 
-    def feed(name):
+    def feed():
         with suppress(BrokenPipeError), open(name, "wb", buffering=0) as fifo:
             for part in range(PARTS):
                 fifo.write(PATTERN[1025 * part // PARTS : 1025 * (part + 1) // PARTS])
                 time.sleep(FEEDING / PARTS)
 
-    writers = [threading.Thread(target=feed, args=[name]) for name in names]
-    for name, writer in zip(names, writers):
-        os.mkfifo(name)
-        writer.start()
+    os.mkfifo(name)
+    writer = threading.Thread(target=feed)
+    writer.start()
     yield
-    for name, writer in zip(names, writers):
-        # Lets the writer continue if nobody opened the FIFO.
-        os.close(os.open(name, os.O_RDONLY | os.O_NONBLOCK))
-        writer.join()
-        os.unlink(name)
+    # Lets the writer continue if nobody opened the FIFO.
+    os.close(os.open(name, os.O_RDONLY | os.O_NONBLOCK))
+    writer.join()
+    os.unlink(name)
 
 
 def shown_lines(faults, name, written, seconds):
@@ -118,6 +116,7 @@ def run(faults, words, **streams):
 
 def progress(faults):
     """What is on the screen at the end is what is there without the line."""
+
     def row(name, words, out="", said="", status=0, is_shown=True, **streams):
         got, written, ended, seconds = run(faults, words, **streams)
         screen = "\n".join(rows_after(written))
