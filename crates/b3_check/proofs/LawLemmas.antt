@@ -25,7 +25,7 @@ use Rattle.b3_lines.proofs.Pieces.{pieces_of-nil, pieces_of-piece}
 use Rattle.b3_lines.proofs.ReadBack.{Reads-plain, ReadsTagged-tagged}
 use Rattle.b3_check.specs.declared.fault.RunFault.{RunFault}
 use Rattle.b3_check.specs.declared.judging.Verdict.{Verdict}
-use Rattle.b3_check.specs.declared.judging.Verdict.TheVariants.{Good, Differs, Missing, Unreadable}
+use Rattle.b3_check.specs.declared.judging.Verdict.TheVariants.{Good, Differs}
 use Rattle.b3_check.specs.declared.options.CheckOptions.{CheckOptions}
 use Rattle.b3_check.specs.declared.options.Form.{Form}
 use Rattle.b3_check.specs.declared.options.Form.TheVariants.{Named, Bare, Raw, Tagged}
@@ -34,9 +34,9 @@ use Rattle.b3_check.specs.declared.shelf.Shelf.{Ghosts as ShelfWords}
 use Rattle.b3_check.specs.declared.sink.Sink.{Ghosts as SinkWords}
 use Rattle.b3_check.specs.declared.tally.Tally.{Tally}
 use Rattle.b3_check.specs.Contents.{Contents}
-use Rattle.b3_check.specs.Checks.{Entry, check_script, line_script, line_scripts, lines_script, list_end_script, verdict_on, verdict_report, warning, warning_script}
+use Rattle.b3_check.specs.Checks.{Entry, check_script, line_script, line_scripts, lines_script, list_end_script, verdict_on, verdict_report, warning_report, warning_script}
 use Rattle.b3_check.specs.Digests.{digest_of, digest_script, line_range}
-use Rattle.b3_check.specs.Laws.{AsksAll, AsksDigests, File, IsThere, Says, Writes, all_ok, counted_over, digest, line_of, ok_of, oks_of, sums_of, tally_of, verdict, verdict_over, verdicts_on, words_of}
+use Rattle.b3_check.specs.Laws.{AsksAll, AsksDigests, File, IsThere, Says, Writes, all_ok, digest, line_of, ok_of, oks_of, sums_of, total, verdict, verdict_over, verdicts_on}
 use Rattle.b3_check.specs.Operands.{Operand}
 use Rattle.b3_check.specs.Operands.Operand.{Text}
 use Rattle.b3_check.specs.Runs.{RanFrom, RanSurely, RanSurelyOver, IoState, io_state}
@@ -88,17 +88,10 @@ report_from-summed asked contents files operands asks operands_are is =
 
 -- ---- a check
 
--- what is written of a line: its name as it stands there, and the words of its verdict
-abbrev verdict_line : Contents → Entry → List ℕ
-verdict_line contents entry = entry.shown ++ words_of (verdict_over contents entry) ++ 10 ∷ []
-
 -- what is said of lines by their verdicts
-abbrev verdicts_said : Contents → List Entry → Report
-verdicts_said contents entries = record {
-  out = flat_map (verdict_line contents) entries;
-  err = [];
-  tally = counted_over contents entries;
-}
+abbrev verdicts_said : CheckOptions → Contents → List Entry → Report
+verdicts_said asked contents entries =
+    total (map (λ (entry : Entry). verdict_report asked entry.shown (verdict_over contents entry)) entries)
 
 -- the verdict by the digest of a content
 verdict_on-content : (said : List ℕ) (content : Option (List ℕ))
@@ -106,14 +99,10 @@ verdict_on-content : (said : List ℕ) (content : Option (List ℕ))
 verdict_on-content said None = refl
 verdict_on-content said (Some content) = refl
 
--- what is said of a line by its verdict
-verdict_report-asked : (asked : CheckOptions) (shown : List ℕ) (v : Verdict) → AsksAll asked
-    → verdict_report asked shown v
-    ≡ record { out = shown ++ words_of v ++ 10 ∷ []; err = []; tally = tally_of v }
-verdict_report-asked asked shown Good asks = rw (asks.status, asks.quiet) refl
-verdict_report-asked asked shown Differs asks = rw asks.status refl
-verdict_report-asked asked shown Missing asks = rw (asks.status, asks.ignore_missing) refl
-verdict_report-asked asked shown Unreadable asks = rw asks.status refl
+-- what is said of a good line
+verdict_report-good : (asked : CheckOptions) (shown : List ℕ) → AsksAll asked
+    → verdict_report asked shown Good ≡ record { out = shown ++ codes ": OK" ++ 10 ∷ []; err = []; tally = one_ok }
+verdict_report-good asked shown asks = rw (asks.status, asks.quiet) refl
 
 -- the script of a line that is read
 abbrev entry_script : CheckOptions → Entry → Script
@@ -130,30 +119,28 @@ line_script-read asked list number line entry says =
 
 -- what is said of lines that are read, and then by what was counted
 report_from-lines : (asked : CheckOptions) (contents : Contents) (list : List ℕ) (number : ℕ)
-    (lines : List (List ℕ)) (entries : List Entry) (tally : Tally) (next : Tally → Script) → AsksAll asked
+    (lines : List (List ℕ)) (entries : List Entry) (tally : Tally) (next : Tally → Script)
     → AllZip Says lines entries
     → report_from contents (then_counted (in_turn (line_scripts asked list number lines)) tally next)
-    ≡ joined (verdicts_said contents entries)
-    (report_from contents (next (tally_sum tally (counted_over contents entries))))
-report_from-lines asked contents list number [] [] tally next asks says =
+    ≡ joined (verdicts_said asked contents entries)
+    (report_from contents (next (tally_sum tally (verdicts_said asked contents entries).tally)))
+report_from-lines asked contents list number [] [] tally next says =
     ap (λ (t : Tally). report_from contents (next t)) (sym (tally_sum-none tally))
     ∙ sym (nothing-joined (report_from contents (next (tally_sum tally no_tally))))
-report_from-lines asked contents list number [] (entry ∷ entries) tally next asks says = absurd says
-report_from-lines asked contents list number (line ∷ lines) [] tally next asks says = absurd says
-report_from-lines asked contents list number (line ∷ lines) (entry ∷ entries) tally next asks says =
+report_from-lines asked contents list number [] (entry ∷ entries) tally next says = absurd says
+report_from-lines asked contents list number (line ∷ lines) [] tally next says = absurd says
+report_from-lines asked contents list number (line ∷ lines) (entry ∷ entries) tally next says =
     let rest = in_turn (line_scripts asked list (number + 1) lines) in
-    let verdict = verdict_over contents entry in
-    let said : Report = record { out = verdict_line contents entry; err = []; tally = tally_of verdict } in
-    let later = verdicts_said contents entries in
+    let said : Report = verdict_report asked entry.shown (verdict_over contents entry) in
+    let later = verdicts_said asked contents entries in
     let is : verdict_report asked entry.shown
     (verdict_on entry.digest (digest_of line_range (answer_of Hashed (contents entry.name)))) ≡ said =
-    ap (verdict_report asked entry.shown) (verdict_on-content entry.digest (contents entry.name))
-    ∙ verdict_report-asked asked entry.shown verdict asks in
+    ap (verdict_report asked entry.shown) (verdict_on-content entry.digest (contents entry.name)) in
     ap (λ (s : Script). report_from contents (then_counted (followed_by s rest) tally next))
     (line_script-read asked list number line entry says.0)
     ∙ ap (λ (r : Report). joined r (report_from contents (then_counted rest (tally_sum tally r.tally) next))) is
     ∙ ap (joined said)
-    (report_from-lines asked contents list (number + 1) lines entries (tally_sum tally said.tally) next asks says.1)
+    (report_from-lines asked contents list (number + 1) lines entries (tally_sum tally said.tally) next says.1)
     ∙ ap (λ (t : Tally). joined said (joined later (report_from contents (next t))))
     (tally_sum-tally_sum tally said.tally later.tally)
     ∙ sym (joined-joined said later
@@ -176,32 +163,27 @@ end_script asked list tally = then_counted (list_end_script asked list tally) ta
 
 report_from-end : (asked : CheckOptions) (contents : Contents) (list : List ℕ) (tally : Tally) → AsksAll asked
     → report_from contents (end_script asked list tally)
-    ≡ record { out = []; err = warning tally.failed; tally = no_tally }
+    ≡ warning_report asked tally
 report_from-end asked contents list tally asks =
     rw (asks.ignore_missing, asks.strict, asks.status) (simp (append-nil, add-zero))
 
 -- what a check says of a list whose lines say something
 pub report_from-checked : (asked : CheckOptions) (contents : Contents) (list text : List ℕ) (entries : List Entry)
     → AsksAll asked → contents list ≡ Some text → AllZip Says (lines_of text) entries
-    → report_from contents (check_script asked (Text list ∷ [])) ≡ verdicts_on contents entries
+    → report_from contents (check_script asked (Text list ∷ [])) ≡ verdicts_on asked contents entries
 report_from-checked asked contents list text entries asks has says =
     let lines = in_turn (line_scripts asked list 1 (lines_of text)) in
     let ends = list_end_script asked list in
     let warns = warning_script asked in
-    let said = verdicts_said contents entries in
+    let said = verdicts_said asked contents entries in
     ap (λ (c : Option (List ℕ)). report_from contents
     (then_counted (followed_by (lines_script asked list (answer_of Listed c)) Done) no_tally warns)) has
     ∙ ap (λ (s : Script). report_from contents (then_counted s no_tally warns))
     (followed_by-Done (then_counted lines no_tally ends))
     ∙ ap (report_from contents) (then_counted-then_counted lines no_tally ends warns)
-    ∙ report_from-lines asked contents list 1 (lines_of text) entries no_tally (end_script asked list) asks says
+    ∙ report_from-lines asked contents list 1 (lines_of text) entries no_tally (end_script asked list) says
     ∙ ap (λ (t : Tally). joined said (report_from contents (end_script asked list t))) (none-tally_sum said.tally)
     ∙ ap (joined said) (report_from-end asked contents list said.tally asks)
-    ∙ (λ i. record {
-      out = append-nil said.out i;
-      err = warning said.tally.failed;
-      tally = tally_sum-none said.tally i;
-    })
 
 -- ---- a digest is made of bytes
 
@@ -292,15 +274,17 @@ verdict_over-file contents file is =
     ∙ ap (λ (b : Bool). if b then Good else Differs)
     ((bytes_eq-Decides (digest file.content) (digest file.content)).1 refl)
 
-verdicts_said-files : (contents : Contents) (files : List File) → AllByRecursion (IsThere contents) files
-    → verdicts_said contents (map entry_of files) ≡ oks_of files
-verdicts_said-files contents [] is = refl
-verdicts_said-files contents (file ∷ files) is =
-    let later = verdicts_said contents (map entry_of files) in
-    ap (λ (v : Verdict). joined
-    (record { out = shown file.name ++ words_of v ++ 10 ∷ []; err = []; tally = tally_of v }) later)
+verdicts_said-files : (asked : CheckOptions) (contents : Contents) (files : List File) → AsksAll asked
+    → AllByRecursion (IsThere contents) files
+    → verdicts_said asked contents (map entry_of files) ≡ oks_of files
+verdicts_said-files asked contents [] asks is = refl
+verdicts_said-files asked contents (file ∷ files) asks is =
+    let later = verdicts_said asked contents (map entry_of files) in
+    ap (λ (v : Verdict). joined (verdict_report asked (shown file.name) v) later)
     (verdict_over-file contents file is.0)
-    ∙ ap (joined (record { out = ok_of file; err = []; tally = one_ok })) (verdicts_said-files contents files is.1)
+    ∙ ap (λ (r : Report). joined r later) (verdict_report-good asked (shown file.name) asks)
+    ∙ ap (joined (record { out = ok_of file; err = []; tally = one_ok }))
+    (verdicts_said-files asked contents files asks is.1)
     ∙ ap (λ (n : ℕ). record { out = flat_map ok_of (file ∷ files); err = []; tally = all_ok n })
     (one-add (length files))
 
@@ -312,8 +296,12 @@ pub report_from-sums : (asked : CheckOptions) (form : Form) (contents : Contents
 report_from-sums asked form contents list files asks shows has is =
     report_from-checked asked contents list (flat_map (line_of form) files) (map entry_of files) asks has
     (Says-files form contents files shows is)
-    ∙ ap (λ (r : Report). record { out = r.out; err = warning r.tally.failed; tally = r.tally })
-    (verdicts_said-files contents files is)
+    ∙ ap (λ (r : Report). joined r (warning_report asked r.tally)) (verdicts_said-files asked contents files asks is)
+    ∙ rw asks.status (λ i. record {
+      out = append-nil (flat_map ok_of files) i;
+      err = [];
+      tally = tally_sum-none (all_ok (length files)) i;
+    })
 
 -- ---- a run over known contents
 

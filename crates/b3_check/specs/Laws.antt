@@ -1,5 +1,5 @@
 -- What sums and checks write and count, in a user's words.
-use Rattle.std.specs.Prelude.{◌≡◌, ◌≢◌, ◌⊎◌, ⊤, ℕ, ◌&&◌, Bool, false, true, if◌then◌else◌, IsUtf8, List, [], ◌∷◌, ◌++◌, All, Option, None, Some, Result, Ok, Err, bytes_eq, codes, length, string_bytes}
+use Rattle.std.specs.Prelude.{◌≡◌, ◌≢◌, ◌⊎◌, ⊤, ℕ, ◌&&◌, Bool, false, true, if◌then◌else◌, IsUtf8, List, [], ◌∷◌, ◌++◌, All, Option, None, Some, Result, Ok, Err, bytes_eq, codes, length, map, string_bytes}
 use Rattle.std.specs.Io.KnownBytes.{Appends}
 use Rattle.std.specs.List.{AllZip, flat_map}
 use Rattle.b3_core.specs.Modes.{hash_mode, keyed_mode}
@@ -20,14 +20,13 @@ use Rattle.b3_check.specs.declared.options.KeyChoice.{KeyChoice}
 use Rattle.b3_check.specs.declared.options.KeyChoice.TheVariants.{Plain, Keyed, Derive}
 use Rattle.b3_check.specs.declared.options.SumOptions.{SumOptions}
 use Rattle.b3_check.specs.declared.tally.Tally.{Tally}
-use Rattle.b3_check.specs.Checks.{Entry, list_end_report, refused_report, unnamed_list_report, unread_list_report, verdict_report, warning, warning_report}
+use Rattle.b3_check.specs.Checks.{Entry, list_end_report, refused_report, unnamed_list_report, unread_list_report, verdict_report, warning_report}
 use Rattle.b3_check.specs.Contents.{Contents, input_name}
 use Rattle.b3_check.specs.Operands.{Operand}
 use Rattle.b3_check.specs.Operands.Operand.{Text, NotText}
 use Rattle.b3_check.specs.Scripts.{Report, joined, nothing}
 use Rattle.b3_check.specs.Sinks.{GainsBeginning}
 use Rattle.b3_check.specs.Sums.{digest_report, digest_text, failed_report, is_bad_name, not_text, shows_name}
-use Rattle.b3_check.specs.Tallies.{no_tally, one_differing, one_failed, one_ok, tally_sum}
 
 -- ---- the words
 
@@ -208,41 +207,19 @@ abbrev pub verdict : List ℕ → Option (List ℕ) → Verdict
 verdict said None = Missing
 verdict said (Some content) = if bytes_eq (digest content) said then Good else Differs
 
--- its words
-abbrev pub words_of : Verdict → List ℕ
-words_of Good = codes ": OK"
-words_of Differs = codes ": FAILED"
-words_of Missing = codes ": FAILED (cannot read)"
-words_of Unreadable = codes ": FAILED (cannot read)"
-
--- what it counts
-abbrev pub tally_of : Verdict → Tally
-tally_of Good = one_ok
-tally_of Differs = one_differing
-tally_of Missing = one_failed
-tally_of Unreadable = one_failed
-
 -- the verdict on what a line says
 abbrev pub verdict_over : Contents → Entry → Verdict
 verdict_over contents entry = verdict entry.digest (contents entry.name)
-
--- what is counted of lines
-abbrev pub counted_over : Contents → List Entry → Tally
-counted_over contents [] = no_tally
-counted_over contents (entry ∷ entries) =
-    tally_sum (tally_of (verdict_over contents entry)) (counted_over contents entries)
 
 -- what a sum of files says
 abbrev pub sums_of : Form → List File → Report
 sums_of form files = record { out = flat_map (line_of form) files; err = []; tally = all_ok (length files) }
 
--- what a check of lines says: of each its name as it stands there and the words of its verdict, and then the warning
-abbrev pub verdicts_on : Contents → List Entry → Report
-verdicts_on contents entries = record {
-  out = flat_map (λ entry. entry.shown ++ words_of (verdict_over contents entry) ++ 10 ∷ []) entries;
-  err = warning (counted_over contents entries).failed;
-  tally = counted_over contents entries;
-}
+-- what a check of lines says: the verdict on each, and then the warning
+abbrev pub verdicts_on : CheckOptions → Contents → List Entry → Report
+verdicts_on options contents entries =
+    let said = total (map (λ entry. verdict_report options entry.shown (verdict_over contents entry)) entries) in
+    joined said (warning_report options said.tally)
 
 -- what a check of the lines of files says
 abbrev pub oks_of : List File → Report

@@ -88,7 +88,7 @@ pub fn run_check<
         → S.told shelf.old ≡ Some contents → S.is_sure shelf.old ≡ true
         → AsksAll options.now → operands_left lists.entry ≡ Text list ∷ []
         → contents list ≡ Some text → AllZip Says (lines_of text) entries
-        → IfOk result (λ tally. Writes (verdicts_on contents entries)
+        → IfOk result (λ tally. Writes (verdicts_on options.now contents entries)
         (O.held out.old) (O.held out.new) (E.held err.old) (E.held err.new) (Ok tally)) }
 
     // Of a list that a sum wrote of files that are there it writes that each is ok, in order.

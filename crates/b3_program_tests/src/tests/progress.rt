@@ -158,7 +158,14 @@ fn a_line_comes_and_goes(rt: HostRuntime) -> Result<(), Fail> {
     progress.show_if(true);
     progress.expect_names(2);
     // It is too soon for another line at the second read.
-    shelf.assert(&rt, &[Step::Begin("a", Ok(())), Step::Read(2, Ok(b"by")), Step::Read(2, Ok(b"te"))]);
+    shelf.assert(
+        &rt,
+        &[
+            Step::Begin("a", Ok(())),
+            Step::Read(2, Ok(b"by")),
+            Step::Read(2, Ok(b"te")),
+        ],
+    );
     assert_eq!(rt; sink.write(b"said\n"), Ok(5));
     assert_eq!(rt; sink.write(b"more\n"), Ok(5));
     shelf.assert(&rt, &[Step::Read(2, Ok(b"s"))]);

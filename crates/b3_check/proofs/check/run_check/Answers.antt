@@ -16,7 +16,7 @@ returns-clause-checks g c contents list text entries tells is_sure asks lists_ar
     let options = c.args.options.now in
     wrote_surely g.S.Shelf g.O.Sink g.E.Sink contents (check_script options (operands_left c.args.lists))
     c.args.shelf.now c.args.shelf.now c.args.out.now _ c.args.err.now _ c.check_lists.result
-    (verdicts_on contents entries) tells is_sure
+    (verdicts_on options contents entries) tells is_sure
     (ap (λ (ls : List Operand). report_from contents (check_script options ls)) lists_are
     ∙ report_from-checked options contents list text entries asks has says) (search rules)
 
