@@ -1,6 +1,6 @@
 -- NUL and U+FFFD in names.
-use Rattle.std.proofs.Common.{◌≡◌, ℕ, zero, suc, Bool, true, false, ◌||◌, ◌&&◌, ◌==◌, List, [], ◌∷◌, map, take, drop, slice_index, Option, Some, None, is_some, suc-add, zero-add, refl, sym, ap, ◌∙◌, arith, inl, inr}
-use Rattle.std.specs.List.{flat_map, list_any, starts_with}
+use Rattle.std.proofs.Common.{◌≡◌, ℕ, zero, suc, Bool, true, false, ◌||◌, ◌&&◌, ◌==◌, List, [], ◌∷◌, take, drop, slice_index, Option, Some, None, is_some, suc-add, zero-add, refl, sym, ap, ◌∙◌, arith, inl, inr}
+use Rattle.std.specs.List.{list_any, starts_with}
 use Rattle.std.specs.Prelude.{nat_eq}
 use Rattle.std.specs.Cmp.Lexicographic.{pointwise}
 use Rattle.std.proofs.lemmas.Bool.{false_from_ne_true, or_cases, or_left, or_right}
@@ -10,9 +10,9 @@ use Rattle.std.proofs.lemmas.List.{get_or_default}
 use Rattle.std.proofs.lemmas.List.Prefix.{front_fits, front_from_reads, front_reads}
 use Rattle.std.proofs.lemmas.Slice.Eq.{starts_is}
 use Rattle.memchr.specs.Find.{FindsNeedle, IsFirstByte, OccursAt}
-use Rattle.b3_lines.specs.Names.{Piece, Spells, backslash, carriage_return, has_bad_escape, holds_bad_character, holds_replacement_character, itself, line_feed, meaning, replacement_character, spelling, unescaped}
+use Rattle.b3_lines.specs.Names.{Spells, backslash, carriage_return, has_bad_escape, holds_bad_character, holds_replacement_character, itself, line_feed, no_bytes, replacement_character}
 use Rattle.b3_lines.specs.Reading.{name_of}
-use Rattle.b3_lines.proofs.Escapes.{Spells-from_lawful}
+use Rattle.b3_lines.proofs.Escapes.{Spells-unescaped}
 
 -- ---- as a search finds them
 
@@ -110,61 +110,52 @@ holds_bad_character-second s no_nul = ap (λ b. b || holds_replacement_character
 
 -- ---- in an escaped name
 
--- whether the last byte of U+FFFD, and its last two, stand in front
-ends_one : (pieces : List Piece)
-    → pointwise nat_eq (0xBD ∷ []) (take 1 (flat_map spelling pieces))
-    ≡ pointwise nat_eq (0xBD ∷ []) (take 1 (map meaning pieces))
-ends_one [] = refl
-ends_one (backslash ∷ pieces) = refl
-ends_one (line_feed ∷ pieces) = refl
-ends_one (carriage_return ∷ pieces) = refl
-ends_one (itself b other ∷ pieces) = refl
+-- whether the last byte of U+FFFD stands in front
+ends_one : {text name : List ℕ} → Spells text name
+    → pointwise nat_eq (0xBD ∷ []) (take 1 text) ≡ pointwise nat_eq (0xBD ∷ []) (take 1 name)
+ends_one no_bytes = refl
+ends_one (backslash later) = refl
+ends_one (line_feed later) = refl
+ends_one (carriage_return later) = refl
+ends_one (itself other later) = refl
 
--- the last two bytes
-ends_two : (pieces : List Piece)
-    → pointwise nat_eq (0xBF ∷ 0xBD ∷ []) (take 2 (flat_map spelling pieces))
-    ≡ pointwise nat_eq (0xBF ∷ 0xBD ∷ []) (take 2 (map meaning pieces))
-ends_two [] = refl
-ends_two (backslash ∷ pieces) = refl
-ends_two (line_feed ∷ pieces) = refl
-ends_two (carriage_return ∷ pieces) = refl
-ends_two (itself b other ∷ pieces) = ap (λ t. nat_eq 0xBF b && t) (ends_one pieces)
+-- whether its last two bytes do
+ends_two : {text name : List ℕ} → Spells text name
+    → pointwise nat_eq (0xBF ∷ 0xBD ∷ []) (take 2 text) ≡ pointwise nat_eq (0xBF ∷ 0xBD ∷ []) (take 2 name)
+ends_two no_bytes = refl
+ends_two (backslash later) = refl
+ends_two (line_feed later) = refl
+ends_two (carriage_return later) = refl
+ends_two (itself {b = b} other later) = ap (λ t. nat_eq 0xBF b && t) (ends_one later)
 
--- pieces hold U+FFFD where what they stand for does
-holds_replacement_character-pieces : (pieces : List Piece)
-    → holds_replacement_character (flat_map spelling pieces) ≡ holds_replacement_character (map meaning pieces)
+-- a text holds U+FFFD where the name that it spells does
+holds_replacement_character-Spells : {text name : List ℕ} → Spells text name
+    → holds_replacement_character text ≡ holds_replacement_character name
 unfolding holds_replacement_character
-holds_replacement_character-pieces [] = refl
-holds_replacement_character-pieces (backslash ∷ pieces) = holds_replacement_character-pieces pieces
-holds_replacement_character-pieces (line_feed ∷ pieces) = holds_replacement_character-pieces pieces
-holds_replacement_character-pieces (carriage_return ∷ pieces) = holds_replacement_character-pieces pieces
-holds_replacement_character-pieces (itself b other ∷ pieces) =
-    ap (λ t. (nat_eq 0xEF b && t) || holds_replacement_character (flat_map spelling pieces)) (ends_two pieces)
-    ∙ ap (λ t. (nat_eq 0xEF b && pointwise nat_eq (0xBF ∷ 0xBD ∷ []) (take 2 (map meaning pieces))) || t)
-    (holds_replacement_character-pieces pieces)
+holds_replacement_character-Spells no_bytes = refl
+holds_replacement_character-Spells (backslash later) = holds_replacement_character-Spells later
+holds_replacement_character-Spells (line_feed later) = holds_replacement_character-Spells later
+holds_replacement_character-Spells (carriage_return later) = holds_replacement_character-Spells later
+holds_replacement_character-Spells (itself {b = b} {text = text} {name = name} other later) =
+    ap (λ t. (nat_eq 0xEF b && t) || holds_replacement_character text) (ends_two later)
+    ∙ ap (λ t. (nat_eq 0xEF b && pointwise nat_eq (0xBF ∷ 0xBD ∷ []) (take 2 name)) || t)
+    (holds_replacement_character-Spells later)
 
--- pieces hold NUL where what they stand for does
-holds_nul-pieces : (pieces : List Piece)
-    → list_any (λ b. b == 0) (flat_map spelling pieces) ≡ list_any (λ b. b == 0) (map meaning pieces)
-holds_nul-pieces [] = refl
-holds_nul-pieces (backslash ∷ pieces) = holds_nul-pieces pieces
-holds_nul-pieces (line_feed ∷ pieces) = holds_nul-pieces pieces
-holds_nul-pieces (carriage_return ∷ pieces) = holds_nul-pieces pieces
-holds_nul-pieces (itself b other ∷ pieces) = ap (λ t. (b == 0) || t) (holds_nul-pieces pieces)
-
--- what pieces spell holds a bad character where they stand for one
-holds_bad_character-pieces : (pieces : List Piece)
-    → holds_bad_character (flat_map spelling pieces) ≡ holds_bad_character (map meaning pieces)
-unfolding holds_bad_character
-holds_bad_character-pieces pieces =
-    ap (λ t. t || holds_replacement_character (flat_map spelling pieces)) (holds_nul-pieces pieces)
-    ∙ ap (λ t. list_any (λ b. b == 0) (map meaning pieces) || t) (holds_replacement_character-pieces pieces)
+-- and NUL likewise
+list_any-Spells : {text name : List ℕ} → Spells text name → list_any (λ b. b == 0) text ≡ list_any (λ b. b == 0) name
+list_any-Spells no_bytes = refl
+list_any-Spells (backslash later) = list_any-Spells later
+list_any-Spells (line_feed later) = list_any-Spells later
+list_any-Spells (carriage_return later) = list_any-Spells later
+list_any-Spells (itself {b = b} other later) = ap (λ t. (b == 0) || t) (list_any-Spells later)
 
 -- a text holds a bad character where the name that it spells does
-pub holds_bad_character-Spells : (text name : List ℕ) → Spells text name
+holds_bad_character-Spells : {text name : List ℕ} → Spells text name
     → holds_bad_character text ≡ holds_bad_character name
-holds_bad_character-Spells text name spells =
-    ap holds_bad_character spells.1 ∙ holds_bad_character-pieces spells.0 ∙ sym (ap holds_bad_character spells.2)
+unfolding holds_bad_character
+holds_bad_character-Spells {text = text} {name = name} spells =
+    ap (λ t. t || holds_replacement_character text) (list_any-Spells spells)
+    ∙ ap (λ t. list_any (λ b. b == 0) name || t) (holds_replacement_character-Spells spells)
 
 -- no bytes hold no bad character
 pub holds_bad_character-nil : holds_bad_character [] ≡ false
@@ -176,4 +167,4 @@ pub holds_bad_character-name_of : (marked : Bool) (raw_name : List ℕ) → (mar
     → holds_bad_character (name_of marked raw_name) ≡ holds_bad_character raw_name
 holds_bad_character-name_of false raw_name lawful = refl
 holds_bad_character-name_of true raw_name lawful =
-    sym (holds_bad_character-Spells raw_name (unescaped raw_name) (Spells-from_lawful raw_name lawful))
+    sym (holds_bad_character-Spells (Spells-unescaped raw_name lawful))

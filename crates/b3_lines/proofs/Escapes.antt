@@ -1,13 +1,12 @@
 -- Names escaped, and escapes taken back.
-use Rattle.std.proofs.Common.{◌≡◌, ◌≢◌, ℕ, zero, suc, ◌+◌, ◌<◌, ◌≤◌, true, false, not, ◌||◌, ◌==◌, List, [], ◌∷◌, ◌++◌, map, length, take, drop, slice_index, refl, sym, ap, ◌∙◌, arith, inl, inr, append_assoc, append-nil, take_all, length-append}
+use Rattle.std.proofs.Common.{◌≡◌, ◌≢◌, ℕ, zero, suc, ◌+◌, ◌<◌, ◌≤◌, true, false, not, ◌||◌, ◌==◌, List, [], ◌∷◌, ◌++◌, length, take, drop, slice_index, refl, sym, ap, ◌∙◌, arith, inl, inr, append_assoc, append-nil, take_all, length-append}
 use Rattle.std.proofs.lemmas.List.{drop_all, drop_more, length-drop, length-take-le}
-use Rattle.std.specs.List.{flat_map}
 use Rattle.std.specs.Prelude.{if◌then◌else◌}
 use Rattle.std.proofs.lemmas.Bool.{cases_eq, cond-true, cond-false, ne_eqb, eq-eqb, eqb-true, eqb-false, or_parts, or_cases, not-false, cond_both}
 use Rattle.std.proofs.lemmas.List.Concat.{flat_map-append}
 use Rattle.memchr.specs.Find.{Nowhere, Passes, is_byte}
 use Rattle.b3_lines.proofs.Searches.{Nowhere-head, Nowhere-tail}
-use Rattle.b3_lines.specs.Names.{Piece, Spells, backslash, carriage_return, escape, escape_meaning, escaped, has_bad_escape, is_escaped, itself, line_feed, may_follow_backslash, meaning, spelling, unescaped}
+use Rattle.b3_lines.specs.Names.{Spells, backslash, carriage_return, escape, escape_meaning, escaped, has_bad_escape, is_escaped, itself, line_feed, may_follow_backslash, no_bytes, unescaped}
 
 -- ---- escaped
 
@@ -272,84 +271,61 @@ unescaped-not_nil (b ∷ c ∷ s) some empty =
       | inr other ↦ cc (sym (cond-false (b == 92) _ _ (ne_eqb b 92 other)) ∙ empty)
     ]
 
--- ---- pieces
+-- ---- what a text spells
 
--- what is made of pieces has no bad escape
-pub has_bad_escape-pieces : (pieces : List Piece) → has_bad_escape (flat_map spelling pieces) ≡ false
-has_bad_escape-pieces [] = has_bad_escape-nil
-has_bad_escape-pieces (backslash ∷ pieces) = has_bad_escape-backslash 92 _ ∙ has_bad_escape-pieces pieces
-has_bad_escape-pieces (line_feed ∷ pieces) = has_bad_escape-backslash 110 _ ∙ has_bad_escape-pieces pieces
-has_bad_escape-pieces (carriage_return ∷ pieces) = has_bad_escape-backslash 114 _ ∙ has_bad_escape-pieces pieces
-has_bad_escape-pieces (itself b other ∷ pieces) = has_bad_escape-itself b _ other ∙ has_bad_escape-pieces pieces
+-- a text that spells a name has no bad escape
+pub has_bad_escape-Spells : {text name : List ℕ} → Spells text name → has_bad_escape text ≡ false
+has_bad_escape-Spells no_bytes = has_bad_escape-nil
+has_bad_escape-Spells (backslash later) = has_bad_escape-backslash 92 _ ∙ has_bad_escape-Spells later
+has_bad_escape-Spells (line_feed later) = has_bad_escape-backslash 110 _ ∙ has_bad_escape-Spells later
+has_bad_escape-Spells (carriage_return later) = has_bad_escape-backslash 114 _ ∙ has_bad_escape-Spells later
+has_bad_escape-Spells (itself other later) = has_bad_escape-itself _ _ other ∙ has_bad_escape-Spells later
 
--- and is taken back to what the pieces stand for
-pub unescaped-pieces : (pieces : List Piece) → unescaped (flat_map spelling pieces) ≡ map meaning pieces
-unescaped-pieces [] = unescaped-nil
-unescaped-pieces (backslash ∷ pieces) = unescaped-backslash 92 _ ∙ ap (λ t. 92 ∷ t) (unescaped-pieces pieces)
-unescaped-pieces (line_feed ∷ pieces) = unescaped-backslash 110 _ ∙ ap (λ t. 10 ∷ t) (unescaped-pieces pieces)
-unescaped-pieces (carriage_return ∷ pieces) = unescaped-backslash 114 _ ∙ ap (λ t. 13 ∷ t) (unescaped-pieces pieces)
-unescaped-pieces (itself b other ∷ pieces) = unescaped-itself b _ other ∙ ap (λ t. b ∷ t) (unescaped-pieces pieces)
+-- and is taken back to that name, so that it spells no other
+pub unescaped-Spells : {text name : List ℕ} → Spells text name → unescaped text ≡ name
+unescaped-Spells no_bytes = unescaped-nil
+unescaped-Spells (backslash later) = unescaped-backslash 92 _ ∙ ap (λ t. 92 ∷ t) (unescaped-Spells later)
+unescaped-Spells (line_feed later) = unescaped-backslash 110 _ ∙ ap (λ t. 10 ∷ t) (unescaped-Spells later)
+unescaped-Spells (carriage_return later) = unescaped-backslash 114 _ ∙ ap (λ t. 13 ∷ t) (unescaped-Spells later)
+unescaped-Spells (itself {b = b} other later) = unescaped-itself b _ other ∙ ap (λ t. b ∷ t) (unescaped-Spells later)
 
--- a text spells one name at most
-pub Spells-unescaped : (text name : List ℕ) → Spells text name → (has_bad_escape text ≡ false) × (name ≡ unescaped text)
-Spells-unescaped text name spells =
-    let pieces = spells.0 in (
-      ap has_bad_escape spells.1 ∙ has_bad_escape-pieces pieces,
-      spells.2 ∙ sym (unescaped-pieces pieces) ∙ sym (ap unescaped spells.1),
-    )
+-- what spells a name that is not empty is not empty
+pub Spells-not_nil : {text name : List ℕ} → Spells text name → name ≢ [] → text ≢ []
+Spells-not_nil no_bytes some empty = some refl
+Spells-not_nil (backslash later) some empty = cc empty
+Spells-not_nil (line_feed later) some empty = cc empty
+Spells-not_nil (carriage_return later) some empty = cc empty
+Spells-not_nil (itself other later) some empty = cc empty
 
--- one more piece in front
-pub Spells-cons : (piece : Piece) (text name : List ℕ) → Spells text name
-    → Spells (spelling piece ++ text) (meaning piece ∷ name)
-Spells-cons piece text name spells =
-    (piece ∷ spells.0, ap (λ t. spelling piece ++ t) spells.1, ap (λ t. meaning piece ∷ t) spells.2)
-
--- the last of the three bytes
-ends_last : (c : ℕ) → may_follow_backslash c ≡ true → c ≢ 92 → c ≢ 110 → c ≡ 114
-ends_last c ends not_backslash not_feed =
+-- in front of what spells a name, a `\` and a byte that may follow it spell what they stand for
+Spells-escape_meaning : (c : ℕ) {text name : List ℕ} → may_follow_backslash c ≡ true → Spells text name
+    → Spells (92 ∷ c ∷ text) (escape_meaning c ∷ name)
+Spells-escape_meaning c ends later =
     elim (or_cases (c == 92 || c == 110) (c == 114) ends) [
       | inl early ↦
           elim (or_cases (c == 92) (c == 110) early) [
-            | inl is ↦ absurd (not_backslash (eqb-true c 92 is))
-            | inr is ↦ absurd (not_feed (eqb-true c 110 is))
+            | inl is ↦ rw (eqb-true c 92 is) (backslash later)
+            | inr is ↦ rw (eqb-true c 110 is) (line_feed later)
           ]
-      | inr is ↦ eqb-true c 114 is
-    ]
-
--- the piece of a `\` and a byte that may follow it
-escape_piece : (c : ℕ) → may_follow_backslash c ≡ true
-    → (piece : Piece) × (spelling piece ≡ 92 ∷ c ∷ []) × (meaning piece ≡ escape_meaning c)
-escape_piece c ends =
-    elim (cases_eq c 92) [
-      | inl is ↦ rw is (backslash, refl, refl)
-      | inr not_backslash ↦
-          elim (cases_eq c 110) [
-            | inl is ↦ rw is (line_feed, refl, refl)
-            | inr not_feed ↦
-                let is : c ≡ 114 = ends_last c ends not_backslash not_feed in
-                rw is (carriage_return, refl, refl)
-          ]
+      | inr is ↦ rw (eqb-true c 114 is) (carriage_return later)
     ]
 
 -- a text with no bad escape spells what it is taken back to
-pub Spells-from_lawful : (text : List ℕ) → has_bad_escape text ≡ false → Spells text (unescaped text)
-Spells-from_lawful [] lawful = ([], refl, unescaped-nil)
-Spells-from_lawful (b ∷ []) lawful =
+pub Spells-unescaped : (text : List ℕ) → has_bad_escape text ≡ false → Spells text (unescaped text)
+Spells-unescaped [] lawful = rw unescaped-nil no_bytes
+Spells-unescaped (b ∷ []) lawful =
     elim (cases_eq b 92) [
       | inl is ↦ cc (sym lawful ∙ ap (λ x. has_bad_escape (x ∷ [])) is ∙ has_bad_escape-last)
-      | inr other ↦ rw (unescaped-itself b [] other)
-          (Spells-cons (itself b other) [] (unescaped []) (Spells-from_lawful [] has_bad_escape-nil))
+      | inr other ↦ rw (unescaped-itself b [] other, unescaped-nil) (itself other no_bytes)
     ]
-Spells-from_lawful (b ∷ c ∷ text) lawful =
+Spells-unescaped (b ∷ c ∷ text) lawful =
     elim (cases_eq b 92) [
       | inl is ↦
           let parts = or_parts (not (may_follow_backslash c)) (has_bad_escape text)
           (sym (has_bad_escape-backslash c text) ∙ ap (λ x. has_bad_escape (x ∷ c ∷ text)) (sym is) ∙ lawful) in
-          let piece = escape_piece c (not-false _ parts.0) in
-          let whole = Spells-cons piece.0 text (unescaped text) (Spells-from_lawful text parts.1) in
-          rw (is, unescaped-backslash c text) (rw (piece.1, piece.2) at whole)
+          rw (is, unescaped-backslash c text)
+          (Spells-escape_meaning c (not-false _ parts.0) (Spells-unescaped text parts.1))
       | inr other ↦
           rw (unescaped-itself b (c ∷ text) other)
-          (Spells-cons (itself b other) (c ∷ text) (unescaped (c ∷ text))
-          (Spells-from_lawful (c ∷ text) (sym (has_bad_escape-itself b (c ∷ text) other) ∙ lawful)))
+          (itself other (Spells-unescaped (c ∷ text) (sym (has_bad_escape-itself b (c ∷ text) other) ∙ lawful)))
     ]

@@ -14,7 +14,7 @@ use Rattle.b3_lines.specs.Parts.{HasParts}
 use Rattle.b3_lines.specs.Writing.{spaces, tag_prefix, tag_separator}
 use Rattle.b3_lines.proofs.DigitsAndSpaces.{digest-from_digits, list_all-AllPass}
 use Rattle.b3_lines.proofs.Layouts.{LiesAs, LiesAs-plain, LiesAs-tagged, joined-plain, joined-tagged, length-layout_digits}
-use Rattle.b3_lines.proofs.Escapes.{Spells-from_lawful, Spells-unescaped, unescaped-not_nil, unescaped-nil}
+use Rattle.b3_lines.proofs.Escapes.{Spells-not_nil, Spells-unescaped, has_bad_escape-Spells, unescaped-Spells, unescaped-not_nil}
 use Rattle.b3_lines.proofs.Refusals.{IsPassed, IsPassed-from_none, first_refusal-text, refusal-none, refusal_after_mark-of, text-from_none}
 
 -- what follows the mark of a line
@@ -62,7 +62,7 @@ module _ (text digest digits raw_name : List ℕ) (are : AreDigits digits digest
   spells : has_mark text ≡ true → Spells raw_name its_name
   spells marked =
       subst (Spells raw_name) (sym (cond-true (has_mark text) (unescaped raw_name) raw_name marked))
-      (Spells-from_lawful raw_name (lawful marked))
+      (Spells-unescaped raw_name (lawful marked))
 
   -- the name of another stands as it is
   name-unmarked : has_mark text ≡ false → raw_name ≡ its_name
@@ -236,15 +236,14 @@ SaysAs-from_Reads line digest name shown reads =
           reads.is_text says.digits_are (LiesAs-plain text says.digits digest name says.digits_are says.text_is)
           reads.is_named refl reads.is_lawful refl says.shown_is
       | inr says ↦
-          let spells = Spells-unescaped says.raw_name name says.spells in
           let rest = says.digits ++ spaces ++ says.raw_name in
           let mark_is : has_mark text ≡ true = ap has_mark says.text_is in
           says_as line digest name shown says.digits says.raw_name rest true mark_is
           (cond-true (has_mark text) _ _ mark_is ∙ ap (drop 1) says.text_is)
           (ap (λ t. length t == 0) says.text_is ∙ filled-cons 92 rest)
           reads.is_text says.digits_are (LiesAs-plain rest says.digits digest says.raw_name says.digits_are refl)
-          (λ none. reads.is_named (spells.1 ∙ ap unescaped none ∙ unescaped-nil)) spells.0
-          reads.is_lawful spells.1 says.shown_is
+          (Spells-not_nil says.spells reads.is_named) (has_bad_escape-Spells says.spells)
+          reads.is_lawful (sym (unescaped-Spells says.spells)) says.shown_is
     ]
 
 -- so does a tagged one
@@ -260,15 +259,14 @@ SaysAs-from_ReadsTagged line digest name shown reads =
           reads.is_text says.digits_are (LiesAs-tagged text says.digits name says.text_is says.digits_are.count)
           reads.is_named refl reads.is_lawful refl says.shown_is
       | inr says ↦
-          let spells = Spells-unescaped says.raw_name name says.spells in
           let rest = tag_prefix ++ says.raw_name ++ tag_separator ++ says.digits in
           let mark_is : has_mark text ≡ true = ap has_mark says.text_is in
           says_as line digest name shown says.digits says.raw_name rest true mark_is
           (cond-true (has_mark text) _ _ mark_is ∙ ap (drop 1) says.text_is)
           (ap (λ t. length t == 0) says.text_is ∙ filled-cons 92 rest)
           reads.is_text says.digits_are (LiesAs-tagged rest says.digits says.raw_name refl says.digits_are.count)
-          (λ none. reads.is_named (spells.1 ∙ ap unescaped none ∙ unescaped-nil)) spells.0
-          reads.is_lawful spells.1 says.shown_is
+          (Spells-not_nil says.spells reads.is_named) (has_bad_escape-Spells says.spells)
+          reads.is_lawful (sym (unescaped-Spells says.spells)) says.shown_is
     ]
 
 -- so does a line of either form

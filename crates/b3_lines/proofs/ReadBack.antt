@@ -7,52 +7,40 @@ use Rattle.std.proofs.lemmas.List.{get_or-append_right, length-append, nil_from_
 use Rattle.std.proofs.lemmas.List.Folds.{list_any-append, list_any_at, list_any_none}
 use Rattle.hex.specs.Hex.{IsBytes, encode_lower, is_hex_digit, lower_digits}
 use Rattle.hex.proofs.HexLemmas.{decode_of-encode_lower, decode_of-ok, length-encode_with}
-use Rattle.b3_lines.specs.Names.{unescaped, Piece, Spells, backslash, carriage_return, escape, escaped, holds_bad_character, is_escaped, itself, line_feed, meaning, spelling}
+use Rattle.b3_lines.specs.Names.{Spells, backslash, carriage_return, escape, escaped, holds_bad_character, is_escaped, itself, line_feed, no_bytes}
 use Rattle.b3_lines.specs.Reading.{AreDigits, Reads, ReadsTagged, without_carriage_return}
 use Rattle.b3_lines.specs.Writing.{is_marked, mark, plain_text, shown, spaces, tag_prefix, tag_separator, tagged_text}
-use Rattle.b3_lines.proofs.Escapes.{Spells-unescaped, escape-itself, escaped-cons, escaped-nil, unescaped-nil}
+use Rattle.b3_lines.proofs.Escapes.{Spells-not_nil, escape-itself, escaped-cons, escaped-nil}
 use Rattle.b3_lines.proofs.Refusals.{without_carriage_return-cond}
 use Rattle.b3_lines.proofs.Marks.{escaped-unmarked, shown-marked, shown-unmarked}
 use Rattle.b3_lines.proofs.Texts.{IsUtf8-plain, IsUtf8-tagged}
 
 -- ---- the escaped name spells the name
 
--- the piece that a byte is written as
-written_piece : (b : ℕ) → (piece : Piece) × (spelling piece ≡ escape b) × (meaning piece ≡ b)
-written_piece b =
+-- in front of what spells a name, a byte as it is written spells that byte
+Spells-escape : (b : ℕ) {text name : List ℕ} → Spells text name → Spells (escape b ++ text) (b ∷ name)
+Spells-escape b later =
     elim (cases_eq b 92) [
-      | inl is ↦ rw is (backslash, refl, refl)
+      | inl is ↦ rw is (backslash later)
       | inr not_backslash ↦
           elim (cases_eq b 10) [
-            | inl is ↦ rw is (line_feed, refl, refl)
+            | inl is ↦ rw is (line_feed later)
             | inr not_feed ↦
                 elim (cases_eq b 13) [
-                  | inl is ↦ rw is (carriage_return, refl, refl)
+                  | inl is ↦ rw is (carriage_return later)
                   | inr not_return ↦
                       let plain : is_escaped b ≡ false =
                       or_from _ _ (or_from _ _ (ne_eqb b 92 not_backslash) (ne_eqb b 10 not_feed))
                       (ne_eqb b 13 not_return) in
-                      (itself b not_backslash, sym (escape-itself b plain), refl)
+                      rw (escape-itself b plain) (itself not_backslash later)
                 ]
           ]
     ]
 
--- what is written spells the name
+-- a name as it is written spells that name
 pub Spells-escaped : (name : List ℕ) → Spells (escaped name) name
-Spells-escaped [] = ([], escaped-nil, refl)
-Spells-escaped (b ∷ name) =
-    let piece = written_piece b in
-    let later = Spells-escaped name in (
-      piece.0 ∷ later.0,
-      escaped-cons b name ∙ ap (λ t. t ++ escaped name) (sym piece.1) ∙ ap (λ t. spelling piece.0 ++ t) later.1,
-      ap (λ c. c ∷ name) (sym piece.2) ∙ ap (λ t. meaning piece.0 ∷ t) later.2,
-    )
-
--- a name that is not empty is not written as nothing
-escaped-not_nil : (name : List ℕ) → name ≢ [] → escaped name ≢ []
-escaped-not_nil name some empty =
-    let spells = Spells-unescaped (escaped name) name (Spells-escaped name) in
-    some (spells.1 ∙ ap unescaped empty ∙ unescaped-nil)
+Spells-escaped [] = rw escaped-nil no_bytes
+Spells-escaped (b ∷ name) = rw (escaped-cons b name) (Spells-escape b (Spells-escaped name))
 
 -- ---- no carriage return stands at the end
 
@@ -115,8 +103,8 @@ without_carriage_return-plain : (digest name : List ℕ) → name ≢ []
     → without_carriage_return (plain_text digest name) ≡ plain_text digest name
 unfolding plain_text
 without_carriage_return-plain digest name some =
-    without_carriage_return-same (mark name ++ encode_lower digest ++ spaces) (escaped name) (escaped-not_nil name some)
-    (no_return-escaped name)
+    without_carriage_return-same (mark name ++ encode_lower digest ++ spaces) (escaped name)
+    (Spells-not_nil (Spells-escaped name) some) (no_return-escaped name)
 
 -- the line of a marked name
 plain-marked : (digest name : List ℕ) → is_marked name ≡ true

@@ -1,6 +1,6 @@
 -- Names in check lines, over lists of bytes: text is UTF-8 there, and the characters that are
 -- escaped are ASCII.
-use Rattle.std.specs.Prelude.{◌≢◌, ◌≡◌, ℕ, ◌==◌, ◌||◌, Bool, false, not, if◌then◌else◌, List, [], ◌∷◌, map}
+use Rattle.std.specs.Prelude.{◌≢◌, ℕ, ◌==◌, ◌||◌, Bool, false, not, if◌then◌else◌, List, [], ◌∷◌}
 use Rattle.std.specs.List.{list_any, flat_map, starts_with}
 use Rattle.std.specs.Prelude.{nat_eq}
 
@@ -20,30 +20,14 @@ escape b =
 unfoldable pub escaped : List ℕ → List ℕ
 escaped name = flat_map escape name
 
--- a piece of an escaped name: one of the three escapes, or a byte but `\`
-pub data Piece : Type 0 where
-  backslash : Piece
-  line_feed : Piece
-  carriage_return : Piece
-  itself : (b : ℕ) → b ≢ 92 → Piece
-
--- how a piece is written: `\\`, `\n`, `\r`, or the byte
-abbrev pub spelling : Piece → List ℕ
-spelling backslash = 92 ∷ 92 ∷ []
-spelling line_feed = 92 ∷ 110 ∷ []
-spelling carriage_return = 92 ∷ 114 ∷ []
-spelling (itself b _) = b ∷ []
-
--- what a piece stands for
-abbrev pub meaning : Piece → ℕ
-meaning backslash = 92
-meaning line_feed = 10
-meaning carriage_return = 13
-meaning (itself b _) = b
-
--- the text is made of pieces that spell the name
-abbrev pub Spells : List ℕ → List ℕ → Type 0
-Spells text name = (pieces : List Piece) × (text ≡ flat_map spelling pieces) × (name ≡ map meaning pieces)
+-- the text spells the name: nothing spells nothing; in front of what spells a name, `\\` spells `\`, `\n` a line feed,
+-- `\r` a carriage return, and any byte but `\` itself
+pub data Spells : List ℕ → List ℕ → Type 0 where
+  no_bytes : Spells [] []
+  backslash : {text name : List ℕ} → Spells text name → Spells (92 ∷ 92 ∷ text) (92 ∷ name)
+  line_feed : {text name : List ℕ} → Spells text name → Spells (92 ∷ 110 ∷ text) (10 ∷ name)
+  carriage_return : {text name : List ℕ} → Spells text name → Spells (92 ∷ 114 ∷ text) (13 ∷ name)
+  itself : {b : ℕ} {text name : List ℕ} → b ≢ 92 → Spells text name → Spells (b ∷ text) (b ∷ name)
 
 -- whether `\`, `n` or `r`, which may follow a `\`
 abbrev pub may_follow_backslash : ℕ → Bool
