@@ -36,19 +36,23 @@ use Rattle.b3_check.specs.declared.tally.Tally.{Tally}
 use Rattle.b3_check.specs.Contents.{Contents}
 use Rattle.b3_check.specs.Checks.{Entry, check_script, line_script, line_scripts, lines_script, list_end_script, verdict_on, verdict_report, warning_report, warning_script}
 use Rattle.b3_check.specs.Digests.{digest_of, digest_script, line_range}
-use Rattle.b3_check.specs.Laws.{AsksAll, AsksDigests, File, IsThere, Says, Writes, all_ok, digest, line_of, ok_of, oks_of, sums_of, total, verdict, verdict_over, verdicts_on}
+use Rattle.b3_check.specs.Laws.{AsksAll, AsksDigests, File, IsThere, Says, Writes, digest, oks_of, sums_of, total, verdict, verdict_over, verdicts_on}
 use Rattle.b3_check.specs.Operands.{Operand}
 use Rattle.b3_check.specs.Operands.Operand.{Text}
 use Rattle.b3_check.specs.Runs.{RanFrom, RanSurely, RanSurelyOver, IoState, io_state}
 use Rattle.b3_check.specs.Scripts.{Report, Script, answer_of, followed_by, in_turn, joined, report_from, then_counted}
 use Rattle.b3_check.specs.Scripts.Kind.{Hashed, Listed}
 use Rattle.b3_check.specs.Scripts.Script.{Ask, Done, Fail, Say}
-use Rattle.b3_check.specs.Sums.{failed_report, is_bad_name, name_report, names_script, shows_name, sum_script}
-use Rattle.b3_check.specs.Tallies.{no_tally, one_ok, tally_sum}
+use Rattle.b3_check.specs.Sums.{digest_text, failed_report, is_bad_name, name_report, names_script, shows_name, sum_script}
+use Rattle.b3_check.specs.Tallies.{all_ok, no_tally, tally_sum}
 use Rattle.b3_check.proofs.CheckLemmas.{entry_of-read}
 use Rattle.b3_check.proofs.ScriptLemmas.{followed_by-Done, joined-joined, none-tally_sum, nothing-joined, tally_sum-none, tally_sum-tally_sum}
 
 -- ---- a sum
+
+-- what is written of a file
+abbrev line_of : Form → File → List ℕ
+line_of form file = digest_text form (digest file.content) file.name
 
 -- a line can show the name
 shown_name : (contents : Contents) (file : File) → IsThere contents file → is_bad_name file.name ≡ false
@@ -69,7 +73,7 @@ report_from-names form contents (file ∷ files) is =
     let rest = names_script form line_range (map (λ (f : File). Text f.name) files) in
     let asks = digest_script line_range name (name_report form name) in
     let says = Say (failed_report name (codes "bad name")) Done in
-    let said : Report = record { out = line_of form file; err = []; tally = one_ok } in
+    let said : Report = record { out = line_of form file; err = []; tally = all_ok 1 } in
     ap (λ (b : Bool). report_from contents (followed_by (if b then says else asks) rest))
     (ap (λ (b : Bool). shows_name form && b) (shown_name contents file is.0) ∙ and_false (shows_name form))
     ∙ ap (λ (c : Option (List ℕ)). joined (name_report form name (digest_of line_range (answer_of Hashed c)))
@@ -101,7 +105,7 @@ verdict_on-content said (Some content) = refl
 
 -- what is said of a good line
 verdict_report-good : (asked : CheckOptions) (shown : List ℕ) → AsksAll asked
-    → verdict_report asked shown Good ≡ record { out = shown ++ codes ": OK" ++ 10 ∷ []; err = []; tally = one_ok }
+    → verdict_report asked shown Good ≡ record { out = shown ++ codes ": OK" ++ 10 ∷ []; err = []; tally = all_ok 1 }
 verdict_report-good asked shown asks = rw (asks.status, asks.quiet) refl
 
 -- the script of a line that is read
@@ -274,6 +278,10 @@ verdict_over-file contents file is =
     ∙ ap (λ (b : Bool). if b then Good else Differs)
     ((bytes_eq-Decides (digest file.content) (digest file.content)).1 refl)
 
+-- what is written of a file whose line is good
+abbrev ok_of : File → List ℕ
+ok_of file = shown file.name ++ codes ": OK" ++ 10 ∷ []
+
 verdicts_said-files : (asked : CheckOptions) (contents : Contents) (files : List File) → AsksAll asked
     → AllByRecursion (IsThere contents) files
     → verdicts_said asked contents (map entry_of files) ≡ oks_of files
@@ -283,7 +291,7 @@ verdicts_said-files asked contents (file ∷ files) asks is =
     ap (λ (v : Verdict). joined (verdict_report asked (shown file.name) v) later)
     (verdict_over-file contents file is.0)
     ∙ ap (λ (r : Report). joined r later) (verdict_report-good asked (shown file.name) asks)
-    ∙ ap (joined (record { out = ok_of file; err = []; tally = one_ok }))
+    ∙ ap (joined (record { out = ok_of file; err = []; tally = all_ok 1 }))
     (verdicts_said-files asked contents files asks is.1)
     ∙ ap (λ (n : ℕ). record { out = flat_map ok_of (file ∷ files); err = []; tally = all_ok n })
     (one-add (length files))

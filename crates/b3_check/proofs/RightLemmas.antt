@@ -26,7 +26,7 @@ use Rattle.b3_check.specs.declared.tally.Tally.{Tally}
 use Rattle.b3_check.specs.Checks.{Entry, check_script, entry_of, line_script, line_scripts, lines_script, list_end_report, list_operand_script, list_script, lists_script, refused_report, unnamed_list_report, unread_list_report, verdict_on, verdict_report, warning_report}
 use Rattle.b3_check.specs.Contents.{Contents, input_name}
 use Rattle.b3_check.specs.Digests.{digest_of, digest_script, line_range, range_of}
-use Rattle.b3_check.specs.Laws.{ChecksRightly, IsJust, IsModeOf, LineIsRight, ListOperandIsRight, OperandIsRight, Says, SumsRightly, Writes, cannot_show, digest, total}
+use Rattle.b3_check.specs.Laws.{IsJust, IsModeOf, LineIsRight, ListOperandIsRight, OperandIsRight, Says, Writes, WritesRightly, cannot_show, digest, total}
 use Rattle.b3_check.specs.Operands.{Operand}
 use Rattle.b3_check.specs.Operands.Operand.{Text, NotText}
 use Rattle.b3_check.specs.Runs.{IoState}
@@ -243,8 +243,10 @@ module _ (contents : Contents) (sure : Bool) where
       (name_report options.form name (digest_of (range_of mode options) (answer_of Hashed content)))
   named options mode name None is_mode shows is = inr (inl refl)
   named options mode name (Some bytes) is_mode shows is = inl (record {
+    name = name;
     mode = mode;
     content = bytes;
+    is_name = refl;
     is_mode = is_mode;
     has = is;
     can_show = shows;
@@ -423,23 +425,29 @@ writes limits s before after (Err fault) contents P told holds stopped =
       ),
     )
 
-pub SumsRightly-from_run : (limits : Limits) (before after : IoState) (result : Result Tally RunFault)
+pub WritesRightly-sums : (limits : Limits) (before after : IoState) (result : Result Tally RunFault)
     (contents : Contents) (options : SumOptions) (operands : List Operand) → before.told ≡ Some contents
     → Runs limits (sum_script options operands) before after result
-    → SumsRightly contents options operands before.out.held after.out.held before.err.held after.err.held result
-SumsRightly-from_run limits before after result contents options operands told run =
+    → WritesRightly (OperandIsRight contents options) (λ _. nothing) operands
+    before.out.held after.out.held before.err.held after.err.held result
+WritesRightly-sums limits before after result contents options operands told run =
     let all = writes limits (sum_script options operands) before after result contents
     (HasEach (OperandIsRight contents options) operands) told (Assures-sums contents before.sure options operands) run
     in
     let Wrote_so : Report → Type 0 =
     λ p. Writes p before.out.held after.out.held before.err.held after.err.held result in
-    record { said = all.1.0; right = all.1.1; writes = subst Wrote_so all.1.2 all.2 }
+    record {
+      said = all.1.0;
+      right = all.1.1;
+      writes = subst Wrote_so (all.1.2 ∙ sym (joined-nothing (total all.1.0))) all.2;
+    }
 
-pub ChecksRightly-from_run : (limits : Limits) (before after : IoState) (result : Result Tally RunFault)
+pub WritesRightly-checks : (limits : Limits) (before after : IoState) (result : Result Tally RunFault)
     (contents : Contents) (options : CheckOptions) (lists : List Operand) → before.told ≡ Some contents
     → Runs limits (check_script options lists) before after result
-    → ChecksRightly contents options lists before.out.held after.out.held before.err.held after.err.held result
-ChecksRightly-from_run limits before after result contents options lists told run =
+    → WritesRightly (ListOperandIsRight contents options) (warning_report options) lists
+    before.out.held after.out.held before.err.held after.err.held result
+WritesRightly-checks limits before after result contents options lists told run =
     let all = writes limits (check_script options lists) before after result contents
     (AreChecked contents options lists) told (Assures-checks contents before.sure options lists) run in
     let Wrote_so : Report → Type 0 =

@@ -1,7 +1,6 @@
 -- What is right and counts no failure: each operand has its line, and each line of each list is verified.
-use Rattle.std.proofs.Common.{◌≡◌, ◌⊎◌, ℕ, ◌+◌, ◌==◌, ◌&&◌, true, List, [], ◌∷◌, ◌++◌, Option, Result, Ok, Err, refl, sym, ◌∙◌, ap, subst, inl, inr, arith}
+use Rattle.std.proofs.Common.{◌≡◌, ◌⊎◌, ℕ, ◌+◌, ◌==◌, ◌&&◌, true, List, [], ◌∷◌, Option, Result, Ok, Err, sym, ◌∙◌, ap, inl, inr, arith}
 use Rattle.std.specs.Prelude.{All, IfOk}
-use Rattle.std.specs.Io.KnownBytes.{Appends}
 use Rattle.std.specs.List.{AllByRecursion, AllZip}
 use Rattle.std.proofs.lemmas.Bool.{and_parts, cases_Bool, cond-false, eqb-true}
 use Rattle.std.proofs.lemmas.List.Elements.{All-from_recursion}
@@ -12,12 +11,12 @@ use Rattle.b3_check.specs.declared.judging.Verdict.TheVariants.{Good, Differs, M
 use Rattle.b3_check.specs.declared.options.CheckOptions.{CheckOptions}
 use Rattle.b3_check.specs.declared.options.SumOptions.{SumOptions}
 use Rattle.b3_check.specs.declared.tally.Tally.{Tally}
-use Rattle.b3_check.specs.Checks.{Entry, list_end_report, verdict_report}
+use Rattle.b3_check.specs.Checks.{Entry, list_end_report, verdict_report, warning_report}
 use Rattle.b3_check.specs.Contents.{Contents}
-use Rattle.b3_check.specs.Laws.{ChecksRightly, IsJust, LineIsRight, LineIsVerified, ListOperandIsRight, ListOperandIsVerified, OperandHasLine, OperandIsRight, SumsRightly, WritesAll, total}
+use Rattle.b3_check.specs.Laws.{HasLine, IsJust, LineIsRight, LineIsVerified, ListOperandIsRight, ListOperandIsVerified, OperandIsRight, WritesRightly, total}
 use Rattle.b3_check.specs.Operands.{Operand}
 use Rattle.b3_check.specs.Operands.Operand.{Text, NotText}
-use Rattle.b3_check.specs.Scripts.{Report}
+use Rattle.b3_check.specs.Scripts.{Report, nothing}
 use Rattle.b3_check.specs.Tallies.{one_failed, one_missing, status_of}
 
 -- a tally of status 0 counts no failure
@@ -34,19 +33,15 @@ none_failed tally passed = elim (cases_Bool (tally.failed == 0 && tally.lists ==
 -- of reports that count no failed name each is a line
 HasLine-from_right : (contents : Contents) (options : SumOptions) (operands : List Operand) (said : List Report)
     → AllZip (OperandIsRight contents options) operands said → (total said).tally.failed ≡ 0
-    → AllZip (OperandHasLine contents options) operands said × ((total said).err ≡ [])
-HasLine-from_right contents options [] [] right none = (tt, refl)
+    → AllZip (HasLine contents options) operands said
+HasLine-from_right contents options [] [] right none = tt
 HasLine-from_right contents options [] (one ∷ said) right none = absurd right
 HasLine-from_right contents options (operand ∷ operands) [] right none = absurd right
 HasLine-from_right contents options (NotText list number ∷ operands) (one ∷ said) right none =
     let failed : one.tally.failed ≡ 1 = ap (λ (p : Report). p.tally.failed) right.0 in
     absurd (omega (arith, none, failed))
 HasLine-from_right contents options (Text name ∷ operands) (one ∷ said) right none = elim right.0 [
-  | inl line ↦
-      let rest = HasLine-from_right contents options operands said right.1 (omega (arith, none)) in (
-        (line, rest.0),
-        ap (λ (p : Report). p.err ++ (total said).err) line.said_is ∙ rest.1,
-      )
+  | inl line ↦ (line, HasLine-from_right contents options operands said right.1 (omega (arith, none)))
   | inr complains ↦
       let failed : one.tally.failed ≡ 1 = elim complains [
         | inl unread ↦ ap (λ (p : Report). p.tally.failed) unread
@@ -55,20 +50,19 @@ HasLine-from_right contents options (Text name ∷ operands) (one ∷ said) righ
       absurd (omega (arith, none, failed))
 ]
 
-pub WritesAll-from_right : (contents : Contents) (options : SumOptions) (operands : List Operand)
+pub WritesRightly-lines : (contents : Contents) (options : SumOptions) (operands : List Operand)
     (out_old out_new err_old err_new : Option (List ℕ)) (result : Result Tally RunFault)
-    → SumsRightly contents options operands out_old out_new err_old err_new result
-    → IfOk result (λ tally. status_of tally ≡ 0 → WritesAll contents options operands out_old out_new err_old err_new)
-WritesAll-from_right contents options operands out_old out_new err_old err_new (Err fault) right = tt
-WritesAll-from_right contents options operands out_old out_new err_old err_new (Ok tally) right = λ passed.
-    let counted = ap (λ (t : Tally). t.failed) right.writes.2 in
-    let none = sym counted ∙ (none_failed tally passed).0 in
-    let lines = HasLine-from_right contents options operands right.said right.right none in
+    → WritesRightly (OperandIsRight contents options) (λ _. nothing) operands out_old out_new err_old err_new result
+    → IfOk result (λ tally. status_of tally ≡ 0
+    → WritesRightly (HasLine contents options) (λ _. nothing) operands out_old out_new err_old err_new (Ok tally))
+WritesRightly-lines contents options operands out_old out_new err_old err_new (Err fault) right = tt
+WritesRightly-lines contents options operands out_old out_new err_old err_new (Ok tally) right = λ passed.
+    let none = none_failed tally passed in
+    let failed : tally.failed ≡ (total right.said).tally.failed + 0 = ap (λ (t : Tally). t.failed) right.writes.2 in
     record {
       said = right.said;
-      lines = lines.0;
-      out = right.writes.0;
-      err = subst (Appends err_old err_new) lines.1 right.writes.1;
+      right = HasLine-from_right contents options operands right.said right.right (omega (arith, none.0, failed));
+      writes = right.writes;
     }
 
 -- a verdict that counts no failed line is good, or on a missing name that is passed over
@@ -132,7 +126,8 @@ ListIsVerified-from_right contents options (Text list ∷ lists) (one ∷ said) 
 
 pub AllVerified-from_right : (contents : Contents) (options : CheckOptions) (lists : List Operand)
     (out_old out_new err_old err_new : Option (List ℕ)) (result : Result Tally RunFault)
-    → ChecksRightly contents options lists out_old out_new err_old err_new result
+    → WritesRightly (ListOperandIsRight contents options) (warning_report options) lists
+    out_old out_new err_old err_new result
     → IfOk result (λ tally. status_of tally ≡ 0 → All (ListOperandIsVerified contents options) lists)
 AllVerified-from_right contents options lists out_old out_new err_old err_new (Err fault) right = tt
 AllVerified-from_right contents options lists out_old out_new err_old err_new (Ok tally) right = λ passed.

@@ -13,7 +13,7 @@ use Rattle.b3_check.specs.declared.judging.Verdict.TheVariants.{Good, Differs, U
 use Rattle.b3_check.specs.declared.options.CheckOptions.{CheckOptions}
 use Rattle.b3_check.specs.declared.shelf.NoContent.TheVariants.{Missing, CannotRead}
 use Rattle.b3_check.specs.declared.tally.Tally.{Tally}
-use Rattle.b3_check.specs.Tallies.{has_no_line, is_unverified, no_tally, one_differing, one_failed, one_list, one_malformed, one_missing, one_ok}
+use Rattle.b3_check.specs.Tallies.{all_ok, has_no_line, is_unverified, no_tally, one_differing, one_failed, one_list, one_malformed, one_missing}
 use Rattle.b3_check.specs.Scripts.{Answer, Given, Script, Report, in_turn, then_counted}
 use Rattle.b3_check.specs.Scripts.Kind.{Listed}
 use Rattle.b3_check.specs.Scripts.Script.{Done, Say, Ask}
@@ -79,7 +79,7 @@ verdict_text options shown verdict =
 
 -- what is counted; a missing name that is not passed over cannot be read
 abbrev pub verdict_tally : CheckOptions → Verdict → Tally
-verdict_tally options Good = one_ok
+verdict_tally options Good = all_ok 1
 verdict_tally options Differs = one_differing
 verdict_tally options Unreadable = one_failed
 verdict_tally options IsAway = if options.ignore_missing then one_missing else one_failed

@@ -26,7 +26,8 @@ use Rattle.b3_check.specs.Operands.{Operand}
 use Rattle.b3_check.specs.Operands.Operand.{Text, NotText}
 use Rattle.b3_check.specs.Scripts.{Report, joined, nothing}
 use Rattle.b3_check.specs.Sinks.{GainsBeginning}
-use Rattle.b3_check.specs.Sums.{digest_report, digest_text, failed_report, is_bad_name, not_text, shows_name}
+use Rattle.b3_check.specs.Sums.{digest_report, digest_text, failed_report, is_bad_name, line_feed, not_text, shows_name}
+use Rattle.b3_check.specs.Tallies.{all_ok}
 
 -- ---- the words
 
@@ -54,6 +55,13 @@ Writes said out_old out_new err_old err_new (Ok tally) =
 Writes said out_old out_new err_old err_new (Err fault) =
     GainsBeginning out_old out_new said.out × GainsBeginning err_old err_new said.err
 
+-- of each operand in order something right is said, then what is said by what was counted, and no more is written
+pub record WritesRightly (IsRight : Operand → Report → Type 0) (ends : Tally → Report) (operands : List Operand)
+    (out_old out_new err_old err_new : Option (List ℕ)) (result : Result Tally RunFault) : Type 0 where
+  pub said : List Report
+  pub right : AllZip IsRight operands said
+  pub writes : Writes (joined (total said) (ends (total said).tally)) out_old out_new err_old err_new result
+
 -- the mode that is asked for: a key is the content of `-`, of 32 bytes
 abbrev pub IsModeOf : Contents → KeyChoice → Mode → Type 0
 IsModeOf contents Plain mode = mode ≡ hash_mode
@@ -65,10 +73,12 @@ IsModeOf contents (Derive context) mode = mode ≡ derived_mode (string_bytes co
 abbrev pub cannot_show : Form → List ℕ → Bool
 cannot_show form name = shows_name form && is_bad_name name
 
--- the digest of the name's content is written of it, and nothing else
-pub record HasLine (contents : Contents) (options : SumOptions) (name : List ℕ) (said : Report) : Type 0 where
+-- an operand is a name, of which the digest of its content is written, and nothing else
+pub record HasLine (contents : Contents) (options : SumOptions) (operand : Operand) (said : Report) : Type 0 where
+  pub name : List ℕ
   pub mode : Mode
   pub content : List ℕ
+  pub is_name : operand ≡ Text name
   pub is_mode : IsModeOf contents options.key mode
   pub has : contents name ≡ Some content
   pub can_show : cannot_show options.form name ≡ false
@@ -77,30 +87,10 @@ pub record HasLine (contents : Contents) (options : SumOptions) (name : List ℕ
 -- a name has its line, or a complaint in its place; of one that is not text that is said
 abbrev pub OperandIsRight : Contents → SumOptions → Operand → Report → Type 0
 OperandIsRight contents options (Text name) said =
-    HasLine contents options name said
+    HasLine contents options (Text name) said
     ⊎ ((said ≡ failed_report name (codes "cannot read"))
     ⊎ ((cannot_show options.form name ≡ true) × (said ≡ failed_report name (codes "bad name"))))
 OperandIsRight contents options (NotText list number) said = said ≡ failed_report list (not_text number)
-
--- an operand has its name's line
-abbrev pub OperandHasLine : Contents → SumOptions → Operand → Report → Type 0
-OperandHasLine contents options (Text name) said = HasLine contents options name said
-OperandHasLine contents options (NotText list number) said = ⊥
-
--- each operand in order has its line or a complaint, and no more is written
-pub record SumsRightly (contents : Contents) (options : SumOptions) (operands : List Operand)
-    (out_old out_new err_old err_new : Option (List ℕ)) (result : Result Tally RunFault) : Type 0 where
-  pub said : List Report
-  pub right : AllZip (OperandIsRight contents options) operands said
-  pub writes : Writes (total said) out_old out_new err_old err_new result
-
--- each operand in order has its line, and there is no complaint
-pub record WritesAll (contents : Contents) (options : SumOptions) (operands : List Operand)
-    (out_old out_new err_old err_new : Option (List ℕ)) : Type 0 where
-  pub said : List Report
-  pub lines : AllZip (OperandHasLine contents options) operands said
-  pub out : Appends out_old out_new (total said).out
-  pub err : Appends err_old err_new []
 
 -- the verdict is right: good only where the digest of the name's content is that of the line
 abbrev pub IsJust : Contents → Entry → Verdict → Type 0
@@ -143,14 +133,6 @@ ListOperandIsRight contents options (Text list) said =
     HasLines contents options list said ⊎ (said ≡ unread_list_report options list)
 ListOperandIsRight contents options (NotText names number) said = said ≡ unnamed_list_report options names number
 
--- each list in order has what is said of its lines or a complaint, then comes the warning, and no more is written
-pub record ChecksRightly (contents : Contents) (options : CheckOptions) (lists : List Operand)
-    (out_old out_new err_old err_new : Option (List ℕ)) (result : Result Tally RunFault) : Type 0 where
-  pub said : List Report
-  pub right : AllZip (ListOperandIsRight contents options) lists said
-  pub writes : Writes (joined (total said) (warning_report options (total said).tally))
-      out_old out_new err_old err_new result
-
 -- a line says the digest of the content of its name, or a name that is not there and is passed over
 abbrev pub LineIsVerified : Contents → CheckOptions → List ℕ → Type 0
 LineIsVerified contents options line =
@@ -169,14 +151,6 @@ ListOperandIsVerified contents options (NotText names number) = ⊥
 pub record File : Type 0 where
   pub name : List ℕ
   pub content : List ℕ
-
--- what a sum in this form writes of a file: a check line of its digest and its name, or its digest alone
-abbrev pub line_of : Form → File → List ℕ
-line_of form file = digest_text form (digest file.content) file.name
-
--- what a check says of a file whose digest is that of its line: its name as it stands there, and `: OK`
-abbrev pub ok_of : File → List ℕ
-ok_of file = shown file.name ++ codes ": OK" ++ 10 ∷ []
 
 -- a file is there by its name, and a line can show the name: it is text, not empty, and holds neither NUL nor U+FFFD
 pub record IsThere (contents : Contents) (file : File) : Type 0 where
@@ -198,10 +172,6 @@ pub record AsksAll (options : CheckOptions) : Type 0 where
   pub status : options.status ≡ false
   pub strict : options.strict ≡ false
 
--- so many names are ok, and nothing else is counted
-abbrev pub all_ok : ℕ → Tally
-all_ok n = record { ok = n; failed = 0; lists = 0; differing = 0; malformed = 0; missing = 0 }
-
 -- the verdict on a line of this digest, whose name has this content, or none
 abbrev pub verdict : List ℕ → Option (List ℕ) → Verdict
 verdict said None = Missing
@@ -211,9 +181,13 @@ verdict said (Some content) = if bytes_eq (digest content) said then Good else D
 abbrev pub verdict_over : Contents → Entry → Verdict
 verdict_over contents entry = verdict entry.digest (contents entry.name)
 
--- what a sum of files says
+-- what a sum of files says: of each a check line of its digest and its name, or its digest alone
 abbrev pub sums_of : Form → List File → Report
-sums_of form files = record { out = flat_map (line_of form) files; err = []; tally = all_ok (length files) }
+sums_of form files = record {
+  out = flat_map (λ file. digest_text form (digest file.content) file.name) files;
+  err = [];
+  tally = all_ok (length files);
+}
 
 -- what a check of lines says: the verdict on each, and then the warning
 abbrev pub verdicts_on : CheckOptions → Contents → List Entry → Report
@@ -221,6 +195,10 @@ verdicts_on options contents entries =
     let said = total (map (λ entry. verdict_report options entry.shown (verdict_over contents entry)) entries) in
     joined said (warning_report options said.tally)
 
--- what a check of the lines of files says
+-- what a check of the lines of files says: of each its name as it stands there, and `: OK`
 abbrev pub oks_of : List File → Report
-oks_of files = record { out = flat_map ok_of files; err = []; tally = all_ok (length files) }
+oks_of files = record {
+  out = flat_map (λ file. shown file.name ++ codes ": OK" ++ line_feed) files;
+  err = [];
+  tally = all_ok (length files);
+}

@@ -18,7 +18,7 @@ use Rattle.b3_check.specs.Contents.{input_name}
 use Rattle.b3_check.specs.Faults.{prefix}
 use Rattle.b3_check.specs.Operands.{Operand}
 use Rattle.b3_check.specs.Operands.Operand.{Text, NotText}
-use Rattle.b3_check.specs.Tallies.{one_failed, one_ok}
+use Rattle.b3_check.specs.Tallies.{all_ok, one_failed}
 use Rattle.b3_check.specs.Scripts.{Answer, Given, Script, Report, in_turn}
 use Rattle.b3_check.specs.Scripts.Kind.{Key}
 use Rattle.b3_check.specs.Scripts.Script.{Done, Fail, Say, Ask}
@@ -56,7 +56,7 @@ digest_text Tagged digest name = tagged_text digest name ++ line_feed
 
 -- what is said of a name by its digest
 abbrev pub digest_report : Form → List ℕ → List ℕ → Report
-digest_report form name digest = record { out = digest_text form digest name; err = []; tally = one_ok }
+digest_report form name digest = record { out = digest_text form digest name; err = []; tally = all_ok 1 }
 
 -- the same, or what is said where it is missing or cannot be read
 abbrev pub name_report : Form → List ℕ → Given (List ℕ) → Report

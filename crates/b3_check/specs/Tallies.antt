@@ -6,9 +6,9 @@ use Rattle.b3_check.specs.declared.tally.Tally.{Tally}
 abbrev pub no_tally : Tally
 no_tally = record { ok = 0; failed = 0; lists = 0; differing = 0; malformed = 0; missing = 0 }
 
--- one name is ok
-abbrev pub one_ok : Tally
-one_ok = record { ok = 1; failed = 0; lists = 0; differing = 0; malformed = 0; missing = 0 }
+-- so many names are ok, and nothing else is counted
+abbrev pub all_ok : ℕ → Tally
+all_ok n = record { ok = n; failed = 0; lists = 0; differing = 0; malformed = 0; missing = 0 }
 
 -- one name cannot be read or is not text, or no line can show it
 abbrev pub one_failed : Tally

@@ -4,11 +4,11 @@ ghost use Rattle.std.specs.Prelude.{◌≡◌, ◌+◌, ◌*◌, ◌-◌, ◌^�
 ghost use Rattle.std.specs.List.{AllZip};
 ghost use Rattle.b3_lines.specs.Lines.{lines_of};
 ghost use Rattle.b3_lines.specs.Reading.{IsReadAs};
-ghost use Rattle.b3_check.specs.Checks.{Entry, check_script, entry_of, lines_script, list_operand_script, list_script, lists_script};
+ghost use Rattle.b3_check.specs.Checks.{Entry, check_script, entry_of, lines_script, list_operand_script, list_script, lists_script, warning_report};
 ghost use Rattle.b3_check.specs.Contents.{Contents};
 ghost use Rattle.b3_check.specs.Digests.{line_range};
 ghost use Rattle.b3_check.specs.Faults.{is_write_fault};
-ghost use Rattle.b3_check.specs.Laws.{AsksAll, ChecksRightly, File, IsThere, ListOperandIsVerified, Says, Writes, oks_of, sums_of, verdicts_on};
+ghost use Rattle.b3_check.specs.Laws.{AsksAll, File, IsThere, ListOperandIsRight, ListOperandIsVerified, Says, Writes, WritesRightly, oks_of, sums_of, verdicts_on};
 ghost use Rattle.b3_check.specs.Operands.{operand_of, operands_left};
 ghost use Rattle.b3_check.specs.Operands.Operand.{Text};
 ghost use Rattle.b3_check.specs.Options.{CanCheck, check_limits};
@@ -115,7 +115,7 @@ pub fn run_check<
     // Over a shelf that tells its contents, whatever fails: each line of each list has the right verdict, `OK` only
     // where its digest is that of the content, or is refused; at a fault a beginning of that is written.
     ensures right { (contents : Contents) → S.told shelf.old ≡ Some contents
-        → ChecksRightly contents options.now (operands_left lists.entry)
+        → WritesRightly (ListOperandIsRight contents options.now) (warning_report options.now) (operands_left lists.entry)
         (O.held out.old) (O.held out.new) (E.held err.old) (E.held err.new) result }
 
     // Where the status is 0 each line of each list says the digest of its name's content.

@@ -3,13 +3,14 @@
 ghost use Rattle.std.specs.Prelude.{◌≡◌, ◌+◌, ◌-◌, ◌^◌, ◌<◌, ◌≤◌, List, All, Ok, Some, true, map, length, IfOk, IfErr, if◌then◌else◌};
 ghost use Rattle.b3_check.specs.Contents.{Contents};
 ghost use Rattle.b3_check.specs.Faults.{is_write_fault};
-ghost use Rattle.b3_check.specs.Laws.{AsksDigests, File, IsThere, SumsRightly, Writes, WritesAll, sums_of};
+ghost use Rattle.b3_check.specs.Laws.{AsksDigests, File, HasLine, IsThere, OperandIsRight, Writes, WritesRightly, sums_of};
 ghost use Rattle.b3_check.specs.Operands.{operands_left};
 ghost use Rattle.b3_check.specs.Operands.Operand.{Text};
 ghost use Rattle.b3_check.specs.Options.{CanRun, limits_of};
 ghost use Rattle.b3_check.specs.Reading.{FindsMode};
 ghost use Rattle.b3_check.specs.Devices.{CanCount, Runs, loans, io_state_of};
 ghost use Rattle.b3_check.specs.Runs.{Ran, RanSurely, Stopped, io_state};
+ghost use Rattle.b3_check.specs.Scripts.{nothing};
 ghost use Rattle.b3_check.specs.Sums.{keys_asked, sum_script};
 ghost use Rattle.b3_check.specs.Tallies.{status_of};
 ghost use Rattle.b3_check.specs.declared.options.Form.TheVariants.{Raw};
@@ -81,13 +82,14 @@ pub fn run_sum<R: Threads + Wait + Sync, S: Shelf + Send + Sync, O: Sink, E: Sin
     // Over a shelf that tells its contents, whatever fails: each operand has the line of its content's digest, or a
     // complaint in its place, and no more is written; at a fault a beginning of that.
     ensures right { (contents : Contents) → S.told shelf.old ≡ Some contents
-        → SumsRightly contents options.now (operands_left operands.entry)
+        → WritesRightly (OperandIsRight contents options.now) (λ _. nothing) (operands_left operands.entry)
         (O.held out.old) (O.held out.new) (E.held err.old) (E.held err.new) result }
 
     // Where the status is 0 each operand has its line.
     ensures all_written { (contents : Contents) → S.told shelf.old ≡ Some contents
-        → IfOk result (λ tally. status_of tally ≡ 0 → WritesAll contents options.now (operands_left operands.entry)
-        (O.held out.old) (O.held out.new) (E.held err.old) (E.held err.new)) }
+        → IfOk result (λ tally. status_of tally ≡ 0
+        → WritesRightly (HasLine contents options.now) (λ _. nothing) (operands_left operands.entry)
+        (O.held out.old) (O.held out.new) (E.held err.old) (E.held err.new) (Ok tally)) }
 
     ensures write_fault { O.failures out.new + E.failures err.new
         ≡ O.failures out.old + E.failures err.old + (if is_write_fault result then 1 else 0) }

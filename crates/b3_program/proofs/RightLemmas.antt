@@ -16,8 +16,8 @@ use Rattle.b3_check.specs.declared.fault.RunFault.{RunFault}
 use Rattle.b3_check.specs.declared.options.Limits.{Limits}
 use Rattle.b3_check.specs.declared.tally.Tally.{Tally}
 use Rattle.b3_check.proofs.Gains.{Appends-nil, GainsBeginning-all, GainsBeginning-append}
-use Rattle.b3_check.proofs.RightLemmas.{ChecksRightly-from_run, SumsRightly-from_run}
-use Rattle.b3_check.proofs.VerifiedLemmas.{AllVerified-from_right, WritesAll-from_right}
+use Rattle.b3_check.proofs.RightLemmas.{WritesRightly-checks, WritesRightly-sums}
+use Rattle.b3_check.proofs.VerifiedLemmas.{AllVerified-from_right, WritesRightly-lines}
 use Rattle.b3_program.specs.Lists.{refusal_over}
 use Rattle.b3_program.specs.Programs.{Does, DoesByList, DoesJob, DoesOver, DoesRightly, DoesTask, EndsAfter, EndsAs, EndsAtFault, EndsRefused, EndsRightly, EndsRightlyOver, IsDone, IsDoneOver, IsRead, JobEndsRightly, JobIsDone, OnlyComplains, limits_for, operands_of, reading_script, script_of, unread_script, with_err}
 use Rattle.b3_program.specs.Said.{IsSaid, line_of}
@@ -42,9 +42,9 @@ DoesRightly-from_run : (contents : Contents) (job : Job) (operands : List Operan
     → Runs (limits_for job) (script_of job operands) before after result
     → DoesRightly contents job operands before.out.held after.out.held before.err.held after.err.held result
 DoesRightly-from_run contents (Sum options) operands before after result told run =
-    SumsRightly-from_run (limits_of options) before after result contents options operands told run
+    WritesRightly-sums (limits_of options) before after result contents options operands told run
 DoesRightly-from_run contents (Check options) operands before after result told run =
-    ChecksRightly-from_run (check_limits options) before after result contents options operands told run
+    WritesRightly-checks (check_limits options) before after result contents options operands told run
 
 JobEndsRightly-from_done : (contents : Contents) (job : Job) (operands : List Operand) (before after : IoState)
     (status : ℕ) → before.told ≡ Some contents → DoesJob job operands before after status
@@ -70,17 +70,19 @@ JobIsDone-from_done : (contents : Contents) (job : Job) (operands : List Operand
     → before.told ≡ Some contents → DoesJob job operands before after status → status ≡ 0
     → JobIsDone contents job operands before.out.held after.out.held before.err.held after.err.held
 JobIsDone-from_done contents (Sum options) operands before after status told done passed = elim done [
-  | inl well ↦
-      WritesAll-from_right contents options operands _ _ _ _ (Ok well.tally)
-      (SumsRightly-from_run (limits_of options) before after (Ok well.tally) contents options operands told well.ran)
-      (sym well.status_is ∙ passed)
+  | inl well ↦ (
+    well.tally,
+    WritesRightly-lines contents options operands _ _ _ _ (Ok well.tally)
+        (WritesRightly-sums (limits_of options) before after (Ok well.tally) contents options operands told
+        well.ran) (sym well.status_is ∙ passed),
+  )
   | inr broke ↦ let one = sym broke.status_is ∙ passed in absurd (omega (arith, one))
 ]
 JobIsDone-from_done contents (Check options) operands before after status told done passed = elim done [
   | inl well ↦
       AllVerified-from_right contents options operands before.out.held after.out.held before.err.held after.err.held
       (Ok well.tally)
-      (ChecksRightly-from_run (check_limits options) before after (Ok well.tally) contents options operands told
+      (WritesRightly-checks (check_limits options) before after (Ok well.tally) contents options operands told
       well.ran)
       (sym well.status_is ∙ passed)
   | inr broke ↦ let one = sym broke.status_is ∙ passed in absurd (omega (arith, one))

@@ -6,15 +6,15 @@ use Rattle.b3_check.specs.declared.fault.RunFault.{RunFault}
 use Rattle.b3_check.specs.declared.options.Form.TheVariants.{Raw}
 use Rattle.b3_check.specs.declared.options.Limits.{Limits}
 use Rattle.b3_check.specs.declared.tally.Tally.{Tally}
-use Rattle.b3_check.specs.Checks.{check_script}
+use Rattle.b3_check.specs.Checks.{check_script, warning_report}
 use Rattle.b3_check.specs.Contents.{Contents, input_name}
 use Rattle.b3_check.specs.Faults.{fault_text}
-use Rattle.b3_check.specs.Laws.{ChecksRightly, ListOperandIsVerified, SumsRightly, WritesAll}
+use Rattle.b3_check.specs.Laws.{HasLine, ListOperandIsRight, ListOperandIsVerified, OperandIsRight, WritesRightly}
 use Rattle.b3_check.specs.Operands.{Operand, operands_in}
 use Rattle.b3_check.specs.Operands.Operand.{Text}
 use Rattle.b3_check.specs.Options.{CanCheck, CanRun, check_limits, limits_of}
 use Rattle.b3_check.specs.Runs.{Heard, Ran, RanSurely, IoState, SinkState, Stopped}
-use Rattle.b3_check.specs.Scripts.{AgreesWith, Answer, Script}
+use Rattle.b3_check.specs.Scripts.{AgreesWith, Answer, Script, nothing}
 use Rattle.b3_check.specs.Scripts.Kind.{Listed}
 use Rattle.b3_check.specs.Scripts.Script.{Ask, Done, Say}
 use Rattle.b3_check.specs.Sinks.{GainsBeginning}
@@ -151,8 +151,9 @@ Ends words = EndsAs (refusal_for words) (DoesTask (task_for words))
 -- a job writes the right line of each operand or a complaint, or the right verdict on each line
 abbrev pub DoesRightly : Contents → Job → List Operand → Option (List ℕ) → Option (List ℕ) → Option (List ℕ)
     → Option (List ℕ) → Result Tally RunFault → Type 0
-DoesRightly contents (Sum options) operands = SumsRightly contents options operands
-DoesRightly contents (Check options) operands = ChecksRightly contents options operands
+DoesRightly contents (Sum options) operands = WritesRightly (OperandIsRight contents options) (λ _. nothing) operands
+DoesRightly contents (Check options) operands =
+    WritesRightly (ListOperandIsRight contents options) (warning_report options) operands
 
 -- it does, after a fault its line is said, and the status is that of the tally, or 1
 pub record JobEndsRightly (contents : Contents) (job : Job) (operands : List Operand)
@@ -188,7 +189,8 @@ EndsRightly contents task = EndsRightlyOver contents task.job task.names
 abbrev pub JobIsDone : Contents → Job → List Operand → Option (List ℕ) → Option (List ℕ) → Option (List ℕ)
     → Option (List ℕ) → Type 0
 JobIsDone contents (Sum options) operands out_old out_new err_old err_new =
-    WritesAll contents options operands out_old out_new err_old err_new
+    (tally : Tally)
+    × WritesRightly (HasLine contents options) (λ _. nothing) operands out_old out_new err_old err_new (Ok tally)
 JobIsDone contents (Check options) operands out_old out_new err_old err_new =
     All (ListOperandIsVerified contents options) operands
 

@@ -7,7 +7,7 @@ use Rattle.b3_check.specs.Scripts.{report_from}
 use Rattle.b3_check.proofs.CheckLemmas.{entry_of-read}
 use Rattle.b3_check.proofs.LawLemmas.{report_from-checked, report_from-sums, wrote_surely}
 use Rattle.b3_check.specs.Options.{check_limits}
-use Rattle.b3_check.proofs.RightLemmas.{ChecksRightly-from_run}
+use Rattle.b3_check.proofs.RightLemmas.{WritesRightly-checks}
 use Rattle.b3_check.proofs.VerifiedLemmas.{AllVerified-from_right}
 use Rattle.b3_check.proofs.check.run_check.Goals as goal
 
@@ -40,7 +40,7 @@ returns-clause-one_entry g c line entry other says also =
 
 pub returns-clause-right : goal.returns-clause-right
 returns-clause-right g c contents told =
-    let right = ChecksRightly-from_run (check_limits c.args.options.now) _ _ c.check_lists.result contents
+    let right = WritesRightly-checks (check_limits c.args.options.now) _ _ c.check_lists.result contents
     c.args.options.now (operands_left c.args.lists) told c.check_lists.ensures.run in
     search (rules, right)
 

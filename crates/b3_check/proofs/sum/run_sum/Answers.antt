@@ -5,8 +5,8 @@ use Rattle.b3_check.specs.Operands.{operands_left}
 use Rattle.b3_check.specs.Sums.{sum_script}
 use Rattle.b3_check.proofs.LawLemmas.{report_from-summed, wrote_surely}
 use Rattle.b3_check.specs.Options.{limits_of}
-use Rattle.b3_check.proofs.RightLemmas.{SumsRightly-from_run}
-use Rattle.b3_check.proofs.VerifiedLemmas.{WritesAll-from_right}
+use Rattle.b3_check.proofs.RightLemmas.{WritesRightly-sums}
+use Rattle.b3_check.proofs.VerifiedLemmas.{WritesRightly-lines}
 use Rattle.b3_check.proofs.sum.run_sum.Goals as goal
 
 pub returns-clause-sums : goal.returns-clause-sums
@@ -21,11 +21,11 @@ returns-clause-sums g c contents files tells is_sure asks operands_are there =
 
 pub returns-clause-right : goal.returns-clause-right
 returns-clause-right g c contents told =
-    let right = SumsRightly-from_run (limits_of c.args.options.now) _ _ c.sum_names.result contents c.args.options.now
+    let right = WritesRightly-sums (limits_of c.args.options.now) _ _ c.sum_names.result contents c.args.options.now
     (operands_left c.args.operands) told c.sum_names.ensures.run in
     search (rules, right)
 
 pub returns-clause-all_written : goal.returns-clause-all_written
 returns-clause-all_written g c contents told =
-    WritesAll-from_right contents c.args.options.now (operands_left c.args.operands) _ _ _ _ c.sum_names.result
+    WritesRightly-lines contents c.args.options.now (operands_left c.args.operands) _ _ _ _ c.sum_names.result
     (returns-clause-right g c contents told)
