@@ -101,12 +101,12 @@ impl<C: Clock, W: Write> Progress<C, W> {
     }
 
     /// Whether lines are shown, so that there is something to count for.
-    pub fn is_shown(&self) -> bool {
+    pub(crate) fn is_shown(&self) -> bool {
         self.is_shown.load(Ordering::SeqCst)
     }
 
     /// Counts anew: so many names are to be done.
-    pub fn expect_names(&self, count: u64) {
+    pub(crate) fn expect_names(&self, count: u64) {
         self.since
             .store(self.millis().unwrap_or(0), Ordering::SeqCst);
         self.all_names.store(count, Ordering::SeqCst);
@@ -119,40 +119,40 @@ impl<C: Clock, W: Write> Progress<C, W> {
     }
 
     /// Counts a name that is begun in its turn, and answers how many bytes were read of those before it.
-    pub fn begin_name(&self) -> u64 {
+    pub(crate) fn begin_name(&self) -> u64 {
         self.begun_names.fetch_add(1, Ordering::SeqCst);
         self.begun_bytes()
     }
 
     /// How many bytes were read of names in their turn.
-    pub fn begun_bytes(&self) -> u64 {
+    pub(crate) fn begun_bytes(&self) -> u64 {
         self.begun_bytes.load(Ordering::SeqCst)
     }
 
     /// Counts bytes of the name that was begun last.
-    pub fn add_bytes(&self, count: u64) {
+    pub(crate) fn add_bytes(&self, count: u64) {
         self.begun_bytes.fetch_add(count, Ordering::SeqCst);
     }
 
     /// Counts a name that was read whole before its turn.
-    pub fn add_whole(&self, len: u64) {
+    pub(crate) fn add_whole(&self, len: u64) {
         self.whole_names.fetch_add(1, Ordering::SeqCst);
         self.whole_bytes.fetch_add(len, Ordering::SeqCst);
     }
 
     /// Counts a name that waits for its turn, and the length that it tells.
-    pub fn add_waiting(&self, len: u64) {
+    pub(crate) fn add_waiting(&self, len: u64) {
         self.waiting_names.fetch_add(1, Ordering::SeqCst);
         self.waiting_bytes.fetch_add(len, Ordering::SeqCst);
     }
 
     /// Whether names wait for their turn.
-    pub fn has_waiting(&self) -> bool {
+    pub(crate) fn has_waiting(&self) -> bool {
         self.waiting_names.load(Ordering::SeqCst) > 0
     }
 
     /// The turn of the first name that waits has come, which tells this length by now.
-    pub fn end_wait(&self, len: u64) {
+    pub(crate) fn end_wait(&self, len: u64) {
         let names = self.waiting_names.load(Ordering::SeqCst).saturating_sub(1);
         let bytes = self
             .waiting_bytes
@@ -164,7 +164,7 @@ impl<C: Clock, W: Write> Progress<C, W> {
     }
 
     /// Whether it is time for a line.
-    pub fn is_due(&self) -> bool {
+    pub(crate) fn is_due(&self) -> bool {
         match self.millis() {
             Some(now) => self.due.load(Ordering::SeqCst) <= now,
             None => false,
@@ -173,7 +173,7 @@ impl<C: Clock, W: Write> Progress<C, W> {
 
     /// Shows a line with this name, if it is time for one and no other thread writes one. So many bytes are left of the
     /// name in hand; none where it was read whole.
-    pub fn show(&self, name: &str, left: Option<u64>) {
+    pub(crate) fn show(&self, name: &str, left: Option<u64>) {
         let Some(now) = self.millis() else {
             return;
         };

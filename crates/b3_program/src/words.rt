@@ -1,4 +1,4 @@
-ghost use Rattle.std.specs.Prelude.{◌≤◌, ◌^◌, vec_len};
+ghost use Rattle.std.specs.Prelude.{◌≡◌, ◌≤◌, ◌^◌, ◌&&◌, not, vec_len};
 ghost use Rattle.std.specs.Option.{ForSome};
 ghost use Rattle.b3_check.specs.Options.{max_output_len};
 
@@ -45,7 +45,9 @@ pub struct Words {
 
 impl Words {
     /// Whether progress is to be shown: not where nothing is written.
-    pub fn wants_progress(&self) -> bool {
+    pub fn wants_progress(&self) -> bool
+        ensures { result ≡ (self.now.progress && not self.now.status) }
+    {
         self.progress && !self.status
     }
 }

@@ -3,4 +3,5 @@
 mod arguments;
 mod calls;
 mod lists;
+mod progress;
 mod words;

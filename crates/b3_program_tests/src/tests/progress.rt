@@ -156,11 +156,11 @@ fn a_line_comes_and_goes(rt: HostRuntime) -> Result<(), Fail> {
     // Nothing is shown before it is asked for.
     shelf.assert(&rt, &[Step::Begin("a", Ok(())), Step::Read(2, Ok(b"by"))]);
     progress.show_if(true);
-    progress.expect_names(2);
     // It is too soon for another line at the second read.
     shelf.assert(
         &rt,
         &[
+            Step::Expect(2),
             Step::Begin("a", Ok(())),
             Step::Read(2, Ok(b"by")),
             Step::Read(2, Ok(b"te")),

@@ -14,6 +14,8 @@ use std::rt::Files;
 /// A call, and its answer.
 #[derive(Clone, Copy)]
 pub enum Step<'a> {
+    /// So many names are asked for.
+    Expect(u64),
     /// The file of this name is begun, or why it is not.
     Begin(&'a str, Result<(), NoContent>),
     /// What is read next into a buffer of so many bytes.
@@ -35,8 +37,8 @@ pub fn digest_of(hasher: &Hasher) -> [u8; 32] {
     digest
 }
 
-/// The digest of the file of this name, if it is hashed beside others.
-pub fn digest_of_whole<S: Shelf>(shelf: &S, name: &str, max_len: u64) -> Option<[u8; 32]> {
+// The digest of the file of this name, if it is hashed beside others.
+fn digest_of_whole<S: Shelf>(shelf: &S, name: &str, max_len: u64) -> Option<[u8; 32]> {
     let mut buffer = [0; 1_000];
     let mut hasher = Hasher::new(Mode::hash());
     if !shelf.hash_whole(name, max_len, &mut buffer, &mut hasher) {
@@ -113,6 +115,7 @@ impl<S: Shelf> Asked<S> {
     pub fn assert(&mut self, rt: &impl Abort, steps: &[Step<'_>]) {
         for step in steps {
             match *step {
+                Step::Expect(count) => self.shelf.expect_names(count),
                 Step::Begin(name, answer) => self.begin(rt, name, answer),
                 Step::Read(most, answer) => self.read(rt, most, answer),
                 Step::ReadAt(offset, answer) => assert_read_at(rt, &self.shelf, offset, answer),

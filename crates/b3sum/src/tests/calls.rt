@@ -20,8 +20,8 @@ fn silent<R: Clock>(rt: &R, alloc: Global) -> Progress<&R, Vec<u8>> {
 
 const EMPTY_LINE: &[u8] = b"af1349b9f5f9a1a6a0404dea36dcc9499bcb25c9adc112b7cc9a93cae41f3262  -\n";
 
-// The arguments of a call with these words, after the program's name.
-fn arguments(alloc: Global, words: &[&str]) -> Result<Vec<String>, AllocError> {
+/// The arguments of a call with these words, after the program's name.
+pub fn arguments(alloc: Global, words: &[&str]) -> Result<Vec<String>, AllocError> {
     let mut all = Vec::new(alloc);
     all.push(String::from_str(alloc, "b3sum")?)?;
     for word in words {

@@ -74,7 +74,7 @@ fn all_words(rt: HostRuntime) -> Result<(), Stop> {
     let words = read(rt.alloc(), &ALL)?;
     assert!(rt; words.check && words.keyed && words.raw && words.no_names && words.quiet);
     assert!(rt; words.tag && words.ignore_missing && words.status && words.strict && words.warn);
-    assert!(rt; words.progress);
+    assert!(rt; words.progress && !words.wants_progress());
     assert_eq!(rt; words.seek, Some(7));
     assert!(rt; words.derive_key == Some(String::from_str(rt.alloc(), "a context")?));
     assert_eq!(rt; words.length, Some(0));
