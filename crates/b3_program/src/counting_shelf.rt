@@ -9,6 +9,12 @@ use std::alloc::Global;
 use std::io::Write;
 use std::rt::Clock;
 
+/// The clock is read after each file of so many bytes or more.
+const LONG_LEN: u64 = 1 << 16;
+
+/// It is read after one in so many shorter files.
+const SHORT_FILES: u64 = 16;
+
 /// Gives what the shelf within gives, and counts it.
 #[derive(Drop)]
 pub struct CountingShelf<'p, S, C, W> {
@@ -53,10 +59,11 @@ impl<'p, S: Shelf, C: Clock, W: Write> CountingShelf<'p, S, C, W> {
         }
     }
 
-    // Counts a name that was read whole.
+    // Counts a name that was read whole. The clock is not read after each short file, as that would take time.
     fn add_whole(&self, name: &str, len: u64) {
-        self.progress.add_whole(len);
-        if self.progress.is_due() {
+        let before = self.progress.add_whole(len);
+        let is_time_read = len >= LONG_LEN || before % SHORT_FILES == 0;
+        if is_time_read && self.progress.is_due() {
             self.progress.show(name, None);
         }
     }

@@ -134,10 +134,10 @@ impl<C: Clock, W: Write> Progress<C, W> {
         self.begun_bytes.fetch_add(count, Ordering::SeqCst);
     }
 
-    /// Counts a name that was read whole before its turn.
-    pub(crate) fn add_whole(&self, len: u64) {
-        self.whole_names.fetch_add(1, Ordering::SeqCst);
+    /// Counts a name that was read whole before its turn, and answers how many there were before it.
+    pub(crate) fn add_whole(&self, len: u64) -> u64 {
         self.whole_bytes.fetch_add(len, Ordering::SeqCst);
+        self.whole_names.fetch_add(1, Ordering::SeqCst)
     }
 
     /// Counts a name that waits for its turn, and the length that it tells.
