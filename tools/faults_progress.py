@@ -101,6 +101,11 @@ def shown_lines(faults, name, written, seconds):
     return lines
 
 
+def names_in(lines):
+    """How many names are done of how many, and the name in hand, in each of the lines."""
+    return {line.split(", ")[-1] for line in lines}
+
+
 def run(faults, words, **streams):
     """A run with its error output on a terminal: its output, what the terminal took, the status and the time."""
     screen = Screen()
@@ -130,13 +135,13 @@ def progress(faults):
     Path("of-slow").write_text(f"{Z1025}  slow\n{Z1}  e\n")
     with fed_slowly("slow"):
         lines = row("progress of a FIFO", ["--progress", "e", "slow", "missing"], f"{Z0}  e\n{sums}", unread, 1)
-    seen = [line.split(", ")[-1] for line in lines]
-    faults.compare("progress of a FIFO: names", (None, None, set(seen)), ("", "", {"1 of 3: slow"}))
+    faults.compare("progress of a FIFO: names", (None, None, names_in(lines)), ("", "", {"1 of 3: slow"}))
     with fed_slowly("slow"):
         row("progress with both outputs on the terminal", ["--progress", "e", "slow", "missing", "e"], None,
             f"{Z0}  e\n{sums}{unread}{Z0}  e\n", 1, stdout="terminal")
     with fed_slowly("slow"):
-        row("progress of a check", ["-c", "--progress", "of-slow"], "slow: OK\ne: FAILED\n", warning(1), 1)
+        lines = row("progress of a check", ["-c", "--progress", "of-slow"], "slow: OK\ne: FAILED\n", warning(1), 1)
+    faults.compare("progress of a check: names", (None, None, names_in(lines)), ("", "", {"0 of 2: slow"}))
     wide = "漢字" * 40
     with fed_slowly(wide):
         row("progress of a name in wide characters", ["--progress", wide], f"{Z1025}  {wide}\n")

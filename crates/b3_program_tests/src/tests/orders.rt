@@ -224,6 +224,7 @@ fn assert_sums<R: Abort + Threads + Wait + Sync>(
 ) -> Result<(), Fail>
     requires { length (operands_left operands) ≤ 2 ^ 30 }
 {
+    assert_eq!(rt; operands.count_hint(), counts.0.wrapping_add(counts.1));
     let log = RefCell::new(Log::new(alloc));
     let mut out = OutputSink::new(Output::new(OUT, &log)).gathering(is_gathering);
     let mut err = OutputSink::new(Output::new(ERR, &log));

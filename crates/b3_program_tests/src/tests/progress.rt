@@ -1,8 +1,12 @@
 // The line of progress: what it says, when it comes, and that it goes away.
 
+use super::files::FOUR;
 use super::steps::{Asked, Step};
 use b3_check::{MemoryShelf, Sink};
-use b3_program::{ClearingSink, CountingShelf, Counts, OutputSink, Progress, progress_line};
+use b3_program::{
+    ClearingSink, CountingShelf, Counts, FileShelf, MemoryDisk, MemoryFile, NamedFile, OutputSink,
+    Progress, progress_line,
+};
 use std::cell::{Cell, RefCell};
 use std::io::{self, ErrorKind, Write};
 use std::rt::Clock;
@@ -177,3 +181,48 @@ fn a_line_comes_and_goes(rt: HostRuntime) -> Result<(), Fail> {
     assert!(rt; written.try_borrow().is_ok_and(|seen| seen.as_str() == due));
     Ok(())
 }
+
+// A name that was read whole before its turn is done; those that are too long for that wait, and tell their lengths.
+#[test]
+fn names_before_their_turn(rt: HostRuntime) -> Result<(), Fail> {
+    let alloc = rt.alloc();
+    let written = RefCell::new(String::new(alloc));
+    let screen = Screen { written: &written };
+    let clock = StepClock {
+        millis: Cell::new(0),
+    };
+    let progress = Progress::new(alloc, clock, screen, true);
+    progress.show_if(true);
+    let files = FileShelf::new(MemoryDisk::new(&FILES), MemoryFile::new(b""));
+    Asked::new(CountingShelf::new(alloc, files, &progress)).assert(
+        &rt,
+        &[
+            Step::Expect(3),
+            Step::HashWhole("a", 10, Some(FOUR)),
+            Step::HashWhole("b", 10, None),
+            Step::HashWhole("c", 2, None),
+            Step::Begin("b", Ok(())),
+            Step::ReadAt(6, Some(b" bytes")),
+            Step::ReadAt(8, Some(b"ytes")),
+        ],
+    );
+    let due = "\r4 B of ~12 B, 33%, 13 B/s, 0:00 left, 1 of 3: a\x1b[K\
+               \r14 B of 19 B, 73%, 18 B/s, 0:00 left, 1 of 3: b\x1b[K";
+    assert!(rt; written.try_borrow().is_ok_and(|seen| seen.as_str() == due));
+    Ok(())
+}
+
+const FILES: [NamedFile<'static>; 3] = [
+    NamedFile {
+        name: "a",
+        content: b"four",
+    },
+    NamedFile {
+        name: "b",
+        content: b"twelve bytes",
+    },
+    NamedFile {
+        name: "c",
+        content: b"end",
+    },
+];
