@@ -26,6 +26,7 @@ pub struct CountingShelf<'p, S, C, W> {
 }
 
 impl<'p, S: Shelf, C: Clock, W: Write> CountingShelf<'p, S, C, W> {
+    /// A shelf that counts from now on what the one within gives.
     pub fn new(alloc: Global, inner: S, progress: &'p Progress<C, W>) -> CountingShelf<'p, S, C, W>
         ensures { result.inner ≡ inner }
     {

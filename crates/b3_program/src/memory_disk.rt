@@ -71,6 +71,7 @@ pub struct MemoryDisk<'a> {
 }
 
 impl<'a> MemoryDisk<'a> {
+    /// A disk of just these files.
     pub fn new(files: &'a [NamedFile<'a>]) -> MemoryDisk<'a>
         ensures { result.files.now ≡ files.now }
     {

@@ -52,6 +52,7 @@ pub struct RealDisk<'a, F> {
 }
 
 impl<'a, F: Files> RealDisk<'a, F> {
+    /// The disk on which these files are.
     pub fn new(files: &'a F) -> RealDisk<'a, F> {
         RealDisk { files }
     }
@@ -106,6 +107,7 @@ pub struct RealInput<'a, F, I> {
 }
 
 impl<'a, F: Files, I: Read + Copy> RealInput<'a, F, I> {
+    /// An input, the disk on which its paths are, and these paths.
     pub fn new(files: &'a F, input: I, paths: InputPaths<'a>) -> RealInput<'a, F, I> {
         RealInput {
             files,
