@@ -1,5 +1,5 @@
 -- The chaining values of the chunks of an input, in a list, and the top of the tree over them.
-use Rattle.std.proofs.Common.{◌≡◌, ℕ, ◌+◌, ◌*◌, ◌<◌, ◌≤◌, inl, inr, List, [], length, take, drop, get_or, set}
+use Rattle.std.proofs.Common.{◌≡◌, ℕ, zero, suc, ◌+◌, ◌*◌, ◌/◌, ◌<◌, ◌≤◌, inl, inr, List, [], ◌∷◌, length, take, drop, get_or, set}
 use Rattle.std.proofs.Common.{sym, ap, ◌∙◌, arith, add-zero}
 use Rattle.std.proofs.lemmas.Bool.{cases_eq}
 use Rattle.std.proofs.lemmas.List.{take_all, get_or-take, get_or-drop, length-take, length-drop, get_or-set_same}
@@ -72,3 +72,13 @@ each-last mode first full n bytes chainings last room each last_is short n_is j 
       | inr other ↦ get_or-set_other chainings full j last [] other ∙ each j (omega (arith, other))
     ] in
     get_or-take n (set chainings full last) j [] below ∙ at
+
+-- of one full chunk, the first of some lists
+pub lone-chunk : (mode : Mode) (first : ℕ) (bytes words : List ℕ) (lists : List (List ℕ)) → take 1 lists ≡ words ∷ []
+    → words ≡ chaining (chunk_node mode first (take 1024 bytes)) → length bytes / 1024 ≡ 1
+    → (j : ℕ) → 1024 * (j + 1) ≤ length bytes → get_or lists j [] ≡ chunk_chaining mode first bytes j
+lone-chunk mode first bytes words lists front words_is one zero within =
+    sym (get_or-take 1 lists 0 [] (omega arith))
+    ∙ ap (λ l. get_or l 0 []) front ∙ words_is
+    ∙ ap (λ n. chaining (chunk_node mode n (take 1024 bytes))) (sym (add-zero first))
+lone-chunk mode first bytes words lists front words_is one (suc j) within = absurd (omega arith)

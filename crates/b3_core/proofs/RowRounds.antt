@@ -23,12 +23,12 @@ added_rows a b x = zip2 add32 (zip2 add32 a b) x
 abbrev pub rotated_row : List ℕ → List ℕ → ℕ → List ℕ
 rotated_row a b r = map (λ n. rotate_right w32 n r) (zip2 bit_xor a b)
 
--- they have four words each
-pub length-zipped_row : (f : ℕ → ℕ → ℕ) (a b : List ℕ) → length a ≡ 4 → length b ≡ 4 → length (zip2 f a b) ≡ 4
+-- they are as long as the rows that they are made of
+pub length-zipped_row : {n : ℕ} (f : ℕ → ℕ → ℕ) (a b : List ℕ) → length a ≡ n → length b ≡ n → length (zip2 f a b) ≡ n
 length-zipped_row f a b a_long b_long = length-zip2 f a b (a_long ∙ sym b_long) ∙ a_long
 
-pub length-rotated_row : (a b y : List ℕ) (r : ℕ) → length a ≡ 4 → length b ≡ 4 → y ≡ rotated_row a b r
-    → length y ≡ 4
+pub length-rotated_row : {n : ℕ} (a b y : List ℕ) (r : ℕ) → length a ≡ n → length b ≡ n → y ≡ rotated_row a b r
+    → length y ≡ n
 length-rotated_row a b y r a_long b_long y_is =
     ap length y_is
     ∙ length-map (zip2 bit_xor a b) (λ n. rotate_right w32 n r)

@@ -12,7 +12,7 @@ use crate::leaves::{BLOCK_LEN, CHUNK_LEN, block_flags};
 use crate::modes::Mode;
 use std::simd::prelude::*;
 
-const BLOCKS: usize = 16;
+pub(crate) const BLOCKS: usize = 16;
 
 // Four words from this offset on.
 #[inline(always)]
@@ -25,7 +25,7 @@ fn load4(bytes: &[u8], offset: usize) -> u32x4
 
 // Four words from one offset on, and then four words from another.
 #[inline(always)]
-fn load4_pair(bytes: &[u8], offset: usize, next: usize) -> u32x8
+pub(crate) fn load4_pair(bytes: &[u8], offset: usize, next: usize) -> u32x8
     requires offset { offset + 16 ≤ length bytes.now }
     requires next { next + 16 ≤ length bytes.now }
     ensures { result ≡ map (λ i. word_at_offset bytes.now (offset + 4 * i)) (range_with_len 0 4)
@@ -101,7 +101,7 @@ fn lane_offsets(n: usize) -> [usize; 8]
 
 // The flags of block `k` of a full chunk.
 #[inline(always)]
-fn full_chunk_flags(mode: &Mode, k: usize) -> u32
+pub(crate) fn full_chunk_flags(mode: &Mode, k: usize) -> u32
     ensures { result ≡ full_chunk_flags mode.now k }
 {
     if k == BLOCKS - 1 {

@@ -6,9 +6,10 @@ ghost use Rattle.b3_core.specs.Tree.{chunks, parent_node, top};
 ghost use Rattle.b3_core.specs.Lanes.{AreChunkChainings, AreVectors, lane, part};
 
 use crate::broadcast::broadcast;
+use crate::few_chunks::chain_chunks;
 use crate::flags::PARENT;
-use crate::lane_chunks::{chain_all_lanes, chain_some_lanes};
-use crate::lanes::{all_lanes, chainings8, lane_words};
+use crate::lane_chunks::chain_all_lanes;
+use crate::lanes::{chainings8, lane_words};
 use crate::leaves::{BLOCK_LEN, CHUNK_LEN, chunk_node};
 use crate::modes::Mode;
 use crate::nodes::Node;
@@ -91,8 +92,8 @@ fn chaining_from_chunks(mode: &Mode, first: u64, bytes: &[u8], chainings: &[[u32
     parent_node(mode, &left_chaining, &right_chaining).chaining()
 }
 
-// The chaining values of up to eight chunks, of which the full ones go on lanes. The lists from their
-// number on are of no use.
+// The chaining values of up to eight chunks, of which only the last may be short. The lists from their number on are
+// of no use.
 fn chainings_of_few_chunks(mode: &Mode, first: u64, bytes: &[u8]) -> [[u32; 8]; 8]
     requires some { 1024 ≤ length bytes.now }
     requires few { length bytes.now ≤ 8192 }
@@ -100,8 +101,7 @@ fn chainings_of_few_chunks(mode: &Mode, first: u64, bytes: &[u8]) -> [[u32; 8]; 
     ensures { AreChunkChainings mode.now first bytes.now (take (chunks (length bytes.now)) result) }
 {
     let full = bytes.len() / CHUNK_LEN;
-    let h = chain_some_lanes(mode, first, bytes, full);
-    let mut chainings = all_lanes(&h);
+    let mut chainings = chain_chunks(mode, first, bytes);
     if CHUNK_LEN * full < bytes.len() {
         let last = chunk_node(mode, first + full as u64, &bytes[CHUNK_LEN * full..]);
         chainings[full] = last.chaining();

@@ -1,12 +1,13 @@
 // The lanes against one compression, one chunk and one parent at a time.
 
-ghost use Rattle.std.specs.Prelude.{◌≡◌, ◌+◌, ◌^◌, ◌<◌, ◌≤◌, length};
+ghost use Rattle.std.specs.Prelude.{◌≡◌, ◌+◌, ◌*◌, ◌^◌, ◌<◌, ◌≤◌, length};
 ghost use Rattle.b3_core.specs.Tree.{IsTop, chunks, top};
 ghost use Rattle.b3_core.specs.declared.nodes.Node.{Node};
 
 use super::vectors::{KEY, pattern};
 use b3_core::{
-    CHUNK_LEN, Mode, Node, chain8, chunk_node, chunks, compress, compress8, left, parent_node, top,
+    CHUNK_LEN, Mode, Node, chain_chunks, chain8, chunk_node, chunks, compress, compress8, left,
+    parent_node, top,
 };
 use std::process::Abort;
 use std::test::Fail;
@@ -87,6 +88,41 @@ fn tops_around_whole_numbers_of_chunks(rt: HostRuntime) -> Result<(), Fail> {
         }
     }
     Ok(())
+}
+
+// One to eight full chunks together, with and without bytes of another after them, beside one chunk at a time: pairs
+// and lanes take over from one another between these numbers.
+#[test]
+fn one_to_eight_chunks_in_each_mode(rt: HostRuntime) -> Result<(), Fail> {
+    let bytes = pattern(rt.alloc(), 9215)?;
+    for mode in four_modes() {
+        for first in [0, 5, FIRST] {
+            for count in 1..9usize {
+                for more in [0usize, 1, 1023] {
+                    let (part, _) = bytes.split_at(CHUNK_LEN * count + more);
+                    assert_chunks(&rt, &mode, first, part);
+                }
+            }
+        }
+    }
+    Ok(())
+}
+
+fn assert_chunks(rt: &impl Abort, mode: &Mode, first: u64, bytes: &[u8])
+    requires some { 1024 ≤ length bytes.now }
+    requires few { length bytes.now < 9 * 1024 }
+    requires first { first ≤ 2 ^ 53 }
+{
+    let chainings = chain_chunks(mode, first, bytes);
+    for j in 0..bytes.len() / CHUNK_LEN {
+        let chunk = &bytes[CHUNK_LEN * j..CHUNK_LEN * j + CHUNK_LEN];
+        assert_eq!(rt;
+            chainings[j],
+            chunk_node(mode, first + j as u64, chunk).chaining(),
+            "chunk {j} of {} bytes from {first} on",
+            bytes.len()
+        );
+    }
 }
 
 const FIRST: u64 = 4_294_967_292;
