@@ -7,11 +7,14 @@ ghost use Rattle.b3_core.specs.declared.modes.Mode.{Mode};
 ghost use Rattle.b3_hash.specs.Stacks.{stack_of, subtree_chaining};
 
 use arrayvec::ArrayVec;
-use b3_core::{CHUNK_LEN, Mode, Node, parent_node, top};
+use b3_core::{CHUNK_LEN, Mode, Node, chain_chunks, parent_node, top};
 
 // An input of fewer than 2^64 bytes has at most 2^54 chunks, of which the last is not closed: so the
 // number of closed chunks has at most 54 binary digits.
 const MAX_DEPTH: usize = 54;
+
+// The level of a subtree of eight chunks, the least that fills the lanes.
+const EIGHT_CHUNKS: u32 = 3;
 
 // How many chunks are closed, and the chaining values of the full subtrees that these make up: one for
 // each binary digit of their number that is one, the largest at the bottom of the stack.
@@ -112,13 +115,56 @@ impl SubtreeStack {
         let mut level = self.next_level(rest.len());
         // Not `>=`: a full last subtree is not closed, since it is the root where nothing follows.
         while rest.len() as u64 > subtree_len(level) {
-            let (first, others) = rest.split_at(subtree_len(level) as usize);
-            let value = top(mode, self.chunks, first).chaining();
-            self.push(mode, value, level);
+            let count = self.push_first(mode, rest, level);
+            let (_, others) = rest.split_at(CHUNK_LEN * count);
             rest = others;
             level = self.next_level(rest.len());
         }
         (rest, level)
+    }
+
+    // Takes in the first of the bytes, of which more follow, and answers how many chunks these are: a subtree of this
+    // level, or small ones together.
+    fn push_first(&mut self, mode: &Mode, bytes: &[u8], level: u32) -> usize
+        requires level { level < 54 }
+        requires fits { 1024 * self.old.chunks + length bytes.now < 2 ^ 64 }
+        requires aligned { self.old.chunks % 2 ^ level ≡ 0 }
+        requires more { 1024 * 2 ^ level < length bytes.now }
+        ensures some { 0 < result }
+        ensures more { 1024 * result < length bytes.now }
+        ensures chunks { self.new.chunks ≡ self.old.chunks + result }
+        ensures values { (input : List ℕ) → bytes.now ≡ drop (1024 * self.old.chunks) input
+            → self.old.values.items ≡ stack_of 54 0 mode.now input self.old.chunks
+            → self.new.values.items ≡ stack_of 54 0 mode.now input self.new.chunks }
+    {
+        if level < EIGHT_CHUNKS {
+            return self.push_chunks(mode, bytes);
+        }
+        let first = &bytes[..subtree_len(level) as usize];
+        let value = top(mode, self.chunks, first).chaining();
+        self.push(mode, value, level);
+        first.len() / CHUNK_LEN
+    }
+
+    // Takes in the chunks before the next multiple of eight, or those that there are but for the last byte's: their
+    // chaining values are made together, which takes less time than one subtree after the other.
+    fn push_chunks(&mut self, mode: &Mode, bytes: &[u8]) -> usize
+        requires fits { 1024 * self.old.chunks + length bytes.now < 2 ^ 64 }
+        requires more { 1024 < length bytes.now }
+        ensures some { 0 < result }
+        ensures more { 1024 * result < length bytes.now }
+        ensures chunks { self.new.chunks ≡ self.old.chunks + result }
+        ensures values { (input : List ℕ) → bytes.now ≡ drop (1024 * self.old.chunks) input
+            → self.old.values.items ≡ stack_of 54 0 mode.now input self.old.chunks
+            → self.new.values.items ≡ stack_of 54 0 mode.now input self.new.chunks }
+    {
+        let further = (bytes.len() - 1) / CHUNK_LEN;
+        let count = further.min(8 - (self.chunks % 8) as usize);
+        let values = chain_chunks(mode, self.chunks, &bytes[..CHUNK_LEN * count]);
+        'chunks: for j in 0..count {
+            self.push(mode, values[j], 0);
+        }
+        count
     }
 
     // The root of the tree over the closed chunks and a last node, which is the top of all bytes after

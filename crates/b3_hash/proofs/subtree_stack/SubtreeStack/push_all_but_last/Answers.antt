@@ -1,10 +1,7 @@
-use Rattle.std.proofs.Common.{◌≡◌, ◌+◌, ◌-◌, ◌*◌, ◌^◌, ◌<◌, ◌≤◌, ◌++◌, lit<, ◌∙◌, length, take, drop, ap, sym, arith}
+use Rattle.std.proofs.Common.{◌≡◌, ◌+◌, ◌-◌, ◌*◌, ◌^◌, ◌≤◌, ◌++◌, lit<, ◌∙◌, length, drop, ap, sym, arith}
 use Rattle.std.proofs.Math.Nat.{pow-le-pow_right}
-use Rattle.std.proofs.lemmas.List.{length-append, length-drop, drop-drop}
-use Rattle.b3_core.specs.Nodes.{chaining}
-use Rattle.b3_core.specs.Tree.{top}
-use Rattle.b3_hash.specs.Stacks.{stack_of}
-use Rattle.b3_hash.proofs.Runs.{drop-behind, subtree_chaining-at}
+use Rattle.std.proofs.lemmas.List.{length-drop, drop-drop}
+use Rattle.b3_hash.proofs.Runs.{drop-behind}
 use Rattle.b3_hash.proofs.Merging.{stack_of-append}
 use Rattle.b3_hash.proofs.subtree_stack.SubtreeStack.push_all_but_last.Goals as goal
 
@@ -25,48 +22,35 @@ loop-rest-init c =
 
 pub loop-rest-preserved : goal.loop-rest-preserved
 loop-rest-preserved c =
-    let mode = c.args.mode.now in
     let bytes = c.args.bytes.now in
     let rest = c.loop-rest.rest.now in
     let start = c.args.self.now.chunks in
     let chunks = c.loop-rest.self.chunks in
-    let level = c.loop-rest.level in
-    let size : c.subtree_len-in-loop-rest.result ≡ 1024 * 2 ^ level = c.subtree_len-in-loop-rest.ensures.value in
+    let count = c.push_first-count.result in
     let held = c.loop-rest.invariant in
-    let within : 1024 * 2 ^ level < length rest = omega (arith, c.subtree_len.ensures.value, c.loop-rest-test.true) in
-    let next = c.push.ensures.chunks in
-    let front : c.split_at.result.0.now ≡ take (1024 * 2 ^ level) rest =
-    c.split_at.ensures.front ∙ ap (λ k. take k rest) size in
-    let back : c.split_at.result.1.now ≡ drop (1024 * 2 ^ level) rest =
-    c.split_at.ensures.back ∙ ap (λ k. drop k rest) size in
-    let back_len : length c.split_at.result.1.now ≡ length rest - 1024 * 2 ^ level =
-    ap length back ∙ length-drop (1024 * 2 ^ level) rest in
-    let further : 1024 * (chunks - start) + 1024 * 2 ^ level ≡ 1024 * (c.push.new.self.chunks - start) =
+    let more = c.push_first-count.ensures.more in
+    let next = c.push_first-count.ensures.chunks in
+    let back = c.split_at.ensures.back in
+    let back_len = ap length back ∙ length-drop (1024 * count) rest in
+    let further : 1024 * (chunks - start) + 1024 * count ≡ 1024 * (c.push_first-count.new.self.chunks - start) =
     omega (arith, next, held.forward) in record {
       forward = omega (arith, next, held.forward);
-      len = omega (arith, next, held.len, back_len, within);
+      len = omega (arith, next, held.len, back_len, more);
       rest = back
-          ∙ ap (drop (1024 * 2 ^ level)) held.rest
-          ∙ drop-drop (1024 * 2 ^ level) (1024 * (chunks - start)) bytes
+          ∙ ap (drop (1024 * count)) held.rest
+          ∙ drop-drop (1024 * count) (1024 * (chunks - start)) bytes
           ∙ ap (λ k. drop k bytes) further;
-      some = λ some. omega (arith, back_len, within);
+      some = λ some. omega (arith, back_len, more);
       within = c.next_level-level-in-loop-rest.ensures.within;
       low = c.next_level-level-in-loop-rest.ensures.level;
       aligned = c.next_level-level-in-loop-rest.ensures.aligned;
       values = λ before len stack_is.
-          let input = before ++ bytes in
-          let input_len = length-append before bytes in
           let from : 1024 * start + 1024 * (chunks - start) ≡ 1024 * chunks = omega (arith, held.forward) in
-          let behind : rest ≡ drop (1024 * chunks) input =
-          held.rest
+          c.push_first-count.ensures.values (before ++ bytes)
+          (held.rest
           ∙ sym (drop-behind before bytes (1024 * start) (1024 * (chunks - start)) len)
-          ∙ ap (λ k. drop k input) from in
-          let value_is = c.chaining-value.ensures
-          ∙ ap chaining (c.top.ensures.value ∙ ap (top mode chunks) (front ∙ ap (take (1024 * 2 ^ level)) behind))
-          ∙ sym (subtree_chaining-at level mode input chunks held.aligned) in
-          c.push.ensures.values input (omega (arith, input_len, len, held.len, within)) value_is
-          (held.values before len stack_is)
-          ∙ ap (stack_of 54 0 mode input) (sym next);
+          ∙ ap (λ k. drop k (before ++ bytes)) from)
+          (held.values before len stack_is);
     }
 
 pub returns-clause-full : goal.returns-clause-full
