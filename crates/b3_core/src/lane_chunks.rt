@@ -16,7 +16,7 @@ pub(crate) const BLOCKS: usize = 16;
 
 // Four words from this offset on.
 #[inline(always)]
-fn load4(bytes: &[u8], offset: usize) -> u32x4
+pub(crate) fn load4(bytes: &[u8], offset: usize) -> u32x4
     requires { offset + 16 ≤ length bytes.now }
     ensures { result ≡ map (λ i. word_at_offset bytes.now (offset + 4 * i)) (range_with_len 0 4) }
 {

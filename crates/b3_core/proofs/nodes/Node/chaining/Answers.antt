@@ -1,0 +1,10 @@
+use Rattle.std.proofs.Common.{take, ◌∙◌}
+use Rattle.b3_core.specs.Compression.{compress}
+use Rattle.b3_core.proofs.nodes.Node.chaining.Goals as goal
+
+pub returns : goal.returns
+returns c =
+    let node = c.args.self.now in
+    c.joined.ensures
+    ∙ c.chained.ensures.words
+    ∙ (λ i. take 8 (compress (c.halves.ensures.words i) (c.arranged-m.ensures.words i) node.t node.b node.d))
