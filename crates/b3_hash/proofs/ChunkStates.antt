@@ -1,7 +1,7 @@
 -- An open chunk: of no bytes, with one more block closed, with more bytes, and its nodes.
-use Rattle.std.proofs.Common.{◌≡◌, ℕ, zero, suc, ◌+◌, ◌-◌, ◌*◌, ◌<◌, ◌≤◌, List, [], ◌++◌, length, take, drop, refl}
+use Rattle.std.proofs.Common.{◌≡◌, ℕ, zero, suc, ◌+◌, ◌-◌, ◌*◌, ◌/◌, ◌<◌, ◌≤◌, List, [], ◌++◌, length, take, drop, refl}
 use Rattle.std.proofs.Common.{sym, ap, ◌∙◌, add-one, arith}
-use Rattle.std.proofs.lemmas.List.{length-append, length-drop, drop_all, take_all, take-append-le, drop-append-le}
+use Rattle.std.proofs.lemmas.List.{length-append, length-drop, drop_all, drop_at, take_all, take-append-le, drop-append-le}
 use Rattle.std.proofs.lemmas.List.{take-take, drop-take, take-append-drop}
 use Rattle.b3_core.specs.Nodes.{chaining}
 use Rattle.b3_core.specs.Chunks.{block_at, block_node, chaining_value_at, chunk_node, last_block_node}
@@ -95,6 +95,42 @@ HasBytes-append mode number chunk_state bytes piece block held block_is =
       block = block_is ∙ ap (λ b. b ++ piece) held.block
           ∙ sym (drop-append-le (64 * chunk_state.blocks) bytes piece within);
     }
+
+-- whole blocks are closed as they come, where the open block has no bytes
+pub HasBytes-chained : (mode : Mode) (number : ℕ) (chunk_state : ChunkState) (bytes blocks h : List ℕ) (n : ℕ)
+    → HasBytes mode number chunk_state bytes → length chunk_state.block ≡ 0 → length blocks ≡ 64 * n
+    → ((chunk : List ℕ) → chunk_state.h ≡ chaining_value_at mode number chunk chunk_state.blocks
+    → blocks ≡ take (length blocks) (drop (64 * chunk_state.blocks) chunk)
+    → h ≡ chaining_value_at mode number chunk (chunk_state.blocks + length blocks / 64))
+    → HasBytes mode number (record { blocks = chunk_state.blocks + n; h = h; block = chunk_state.block })
+    (bytes ++ blocks)
+HasBytes-chained mode number chunk_state bytes blocks h n held empty count each =
+    let k : ℕ = chunk_state.blocks in
+    let len = held.len in
+    let all = length-append bytes blocks in
+    let start : length bytes ≡ 64 * k = omega arith in
+    let many : length blocks / 64 ≡ n = omega arith in
+    let reaches = held.h ∙ sym (chaining_value_at-append mode number bytes blocks k (omega arith)) in
+    let among : blocks ≡ take (length blocks) (drop (64 * k) (bytes ++ blocks)) =
+    sym (ap (take (length blocks)) (drop_at bytes blocks (64 * k) start) ∙ take_all (length blocks) blocks (omega arith)) in
+    record {
+      len = omega arith;
+      h = each (bytes ++ blocks) reaches among ∙ ap (λ j. chaining_value_at mode number (bytes ++ blocks) (k + j)) many;
+      block = held.block ∙ drop_all (64 * k) bytes (omega arith)
+          ∙ sym (drop_all (64 * (k + n)) (bytes ++ blocks) (omega arith));
+    }
+
+-- bytes that the open block has room for leave the closed blocks as they are
+pub IsChunkState-within : (mode : Mode) (number : ℕ) (old new : ChunkState) (bytes piece : List ℕ)
+    → IsChunkState mode number old bytes → HasBytes mode number new (bytes ++ piece)
+    → new.blocks ≡ old.blocks → length new.block ≤ 64
+    → IsChunkState mode number new (bytes ++ piece)
+IsChunkState-within mode number old new bytes piece is_chunk_state held same fits =
+    let len = held.len in
+    let old_len = is_chunk_state.has_bytes.len in
+    let all = length-append bytes piece in
+    let last = is_chunk_state.last in
+    record { has_bytes = held; last = omega arith }
 
 -- a chunk whose open block has a byte is begun
 pub IsChunkState-open : (mode : Mode) (number : ℕ) (chunk_state : ChunkState) (bytes : List ℕ)

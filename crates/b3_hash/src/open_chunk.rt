@@ -2,7 +2,7 @@
 
 ghost use Rattle.std.specs.Prelude.{◌≡◌, ℕ, ◌+◌, ◌*◌, ◌<◌, ◌≤◌, [], ◌++◌, List, length};
 
-use b3_core::{BLOCK_LEN, Mode, Node, block_node, last_block_node};
+use b3_core::{BLOCK_LEN, Mode, Node, block_node, chain_blocks, last_block_node};
 
 // A chunk of at most 1,024 bytes so far: the chaining value of its closed blocks, how many these are,
 // and the open block, which is closed only when a further byte comes.
@@ -52,18 +52,15 @@ impl OpenChunk {
         last_block_node(mode, number, self.closed_blocks, &self.h, block)
     }
 
-    // Closes the open block if it is full, so that it has room for a further byte.
-    fn make_room(&mut self, mode: &Mode, number: u64)
-        requires { 64 * self.old.closed_blocks + self.old.block_len < 1024 }
-        ensures len { 64 * self.new.closed_blocks + self.new.block_len
-            ≡ 64 * self.old.closed_blocks + self.old.block_len }
-        ensures room { self.new.block_len < 64 }
+    // Closes the open block, which is full: a further byte comes.
+    fn close_block(&mut self, mode: &Mode, number: u64)
+        requires full { self.old.block_len ≡ 64 }
+        requires chunk { 64 * self.old.closed_blocks + 64 < 1024 }
+        ensures blocks { self.new.closed_blocks ≡ self.old.closed_blocks + 1 }
+        ensures empty { self.new.block_len ≡ 0 }
         ensures bytes { (bytes : List ℕ) → HasBytes mode.now number (chunk_state_of self.old) bytes
             → HasBytes mode.now number (chunk_state_of self.new) bytes }
     {
-        if self.block_len < BLOCK_LEN {
-            return;
-        }
         let node = block_node(mode, number, self.closed_blocks, &self.h, &self.block);
         self.h = node.chaining();
         self.closed_blocks += 1;
@@ -85,6 +82,25 @@ impl OpenChunk {
         self.block_len = end;
     }
 
+    // Appends bytes where the open block has none. All whole blocks but the last are closed as they stand in the
+    // bytes; only the last is copied.
+    fn append_blocks(&mut self, mode: &Mode, number: u64, bytes: &[u8])
+        requires empty { self.old.block_len ≡ 0 }
+        requires some { 0 < length bytes.now }
+        requires chunk { 64 * self.old.closed_blocks + length bytes.now ≤ 1024 }
+        ensures len { 64 * self.new.closed_blocks + self.new.block_len
+            ≡ 64 * self.old.closed_blocks + length bytes.now }
+        ensures some { 0 < self.new.block_len }
+        ensures bytes { (before : List ℕ) → HasBytes mode.now number (chunk_state_of self.old) before
+            → HasBytes mode.now number (chunk_state_of self.new) (before ++ bytes.now) }
+    {
+        let count = (bytes.len() - 1) / BLOCK_LEN;
+        let blocks = &bytes[..BLOCK_LEN * count];
+        self.h = chain_blocks(mode, number, self.closed_blocks, &self.h, blocks);
+        self.closed_blocks += count;
+        self.extend_block(&bytes[BLOCK_LEN * count..]);
+    }
+
     // Appends bytes to the chunk. A full block is closed only when a further byte comes, so that it can
     // be the last.
     pub(crate) fn append(&mut self, mode: &Mode, number: u64, bytes: &[u8])
@@ -94,12 +110,17 @@ impl OpenChunk {
         ensures chunk_state { (before : List ℕ) → IsChunkState mode.now number (chunk_state_of self.old) before
             → IsChunkState mode.now number (chunk_state_of self.new) (before ++ bytes.now) }
     {
-        let mut at = 0;
-        while at < bytes.len() {
-            self.make_room(mode, number);
-            let end = bytes.len().min(at + (BLOCK_LEN - self.block_len));
-            self.extend_block(&bytes[at..end]);
-            at = end;
+        let room = BLOCK_LEN - self.block_len;
+        if bytes.len() <= room {
+            self.extend_block(bytes);
+            return;
         }
+        if self.block_len == 0 {
+            self.append_blocks(mode, number, bytes);
+            return;
+        }
+        self.extend_block(&bytes[..room]);
+        self.close_block(mode, number);
+        self.append_blocks(mode, number, &bytes[room..]);
     }
 }
