@@ -3,30 +3,25 @@
 ghost use Rattle.std.specs.Prelude.{◌≡◌, ℕ, List, ◌+◌, ◌*◌, ◌/◌, ◌%◌, ◌≤◌, length, take, drop};
 ghost use Rattle.b3_core.specs.Words.{words_of};
 ghost use Rattle.b3_core.specs.Chunks.{chaining_value_at};
-ghost use Rattle.b3_core.specs.Rows.{AreRows, message_of, row_words};
+ghost use Rattle.b3_core.specs.Rows.{AreRows, row_words};
 
-use crate::compression::{Rows, chained, halves, joined};
+use crate::compression::{Rows, arranged, chained, halves, joined};
 use crate::lane_chunks::load4;
 use crate::leaves::{BLOCK_LEN, block_flags};
 use crate::modes::Mode;
 
-// The words of the 64 bytes from this offset on, in the order in which a round takes them. They go from four loads to
-// their rows by shuffles: word by word they would pass through memory.
+// The sixteen words of the 64 bytes from this offset on, four in each row.
 #[inline(always)]
-fn load_arranged(bytes: &[u8], offset: usize) -> Rows
+fn load_rows(bytes: &[u8], offset: usize) -> Rows
     requires { offset + 64 ≤ length bytes.now }
     ensures rows { AreRows result }
-    ensures words { message_of (row_words result) ≡ words_of (take 64 (drop offset bytes.now)) }
+    ensures words { row_words result ≡ words_of (take 64 (drop offset bytes.now)) }
 {
-    let w0 = load4(bytes, offset);
-    let w1 = load4(bytes, offset + 16);
-    let w2 = load4(bytes, offset + 32);
-    let w3 = load4(bytes, offset + 48);
     (
-        w0.shuffle::<4>(w1, [0, 2, 4, 6]),
-        w0.shuffle::<4>(w1, [1, 3, 5, 7]),
-        w2.shuffle::<4>(w3, [0, 2, 4, 6]).swizzle::<4>([3, 0, 1, 2]),
-        w2.shuffle::<4>(w3, [1, 3, 5, 7]).swizzle::<4>([3, 0, 1, 2]),
+        load4(bytes, offset),
+        load4(bytes, offset + 16),
+        load4(bytes, offset + 32),
+        load4(bytes, offset + 48),
     )
 }
 
@@ -42,7 +37,7 @@ pub fn chain_blocks(mode: &Mode, number: u64, index: usize, h: &[u32; 8], blocks
     let mut value = halves(h);
     let mut flags = block_flags(mode, index);
     'inner: for k in 0..blocks.len() / BLOCK_LEN {
-        let m = load_arranged(blocks, BLOCK_LEN * k);
+        let m = arranged(load_rows(blocks, BLOCK_LEN * k));
         let next = chained(value, m, number, BLOCK_LEN as u32, flags);
         value = next;
         flags = mode.flag;

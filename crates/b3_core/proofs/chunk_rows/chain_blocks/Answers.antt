@@ -22,7 +22,7 @@ inner-preserved c = record {
       c.chained-next.ensures.words
       ∙ chaining_value_at-next c.args.mode.now c.args.number chunk c.args.blocks.now c.args.index c.inner.k _ _ _ among
       (omega (arith, c.inner-test.true)) (c.inner.invariant.chained chunk reaches among)
-      c.load_arranged-m.ensures.words c.inner.invariant.flags;
+      (c.arranged-m.ensures.words ∙ c.load_rows.ensures.words) c.inner.invariant.flags;
 }
 
 pub returns : goal.returns
