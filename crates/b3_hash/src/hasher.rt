@@ -155,7 +155,10 @@ impl Hasher {
             }
             None => self.chunks.append(input),
         };
-        self.window = last;
+        // There is no window now: to write none over it would cost a copy of its place.
+        if last.is_some() {
+            self.window = last;
+        }
     }
 
     /// Takes in the next 2^level chunks of the input, a window, by the node of their subtree: their
