@@ -41,7 +41,7 @@ fn assert_same_top(rt: &impl Abort, mode: &Mode, bytes: &[u8])
     );
 }
 
-fn four_modes() -> [Mode; 4] {
+pub(super) fn four_modes() -> [Mode; 4] {
     [
         Mode::hash(),
         Mode::keyed(KEY),
