@@ -1,15 +1,15 @@
 -- NUL and U+FFFD in names.
-use Rattle.std.proofs.Common.{◌≡◌, ℕ, zero, suc, Bool, true, false, ◌||◌, ◌&&◌, ◌==◌, List, [], ◌∷◌, take, drop, slice_index, Option, Some, None, is_some, suc-add, zero-add, refl, sym, ap, ◌∙◌, arith, inl, inr}
+use Rattle.std.proofs.Common.{◌≡◌, ℕ, zero, suc, Bool, true, false, ◌||◌, ◌&&◌, ◌==◌, List, [], ◌∷◌, take, drop, slice_index, Option, Some, None, is_none, is_some, add-zero, suc-add, zero-add, refl, sym, ap, ◌∙◌, arith, inl, inr}
 use Rattle.std.specs.List.{list_any, starts_with}
 use Rattle.std.specs.Prelude.{nat_eq}
 use Rattle.std.specs.Cmp.Lexicographic.{pointwise}
-use Rattle.std.proofs.lemmas.Bool.{false_from_ne_true, or_cases, or_left, or_right}
+use Rattle.std.proofs.lemmas.Bool.{eq-eqb, false_from_ne_true, or_cases, or_left, or_parts, or_right}
 use Rattle.std.proofs.lemmas.Bool.Decides.{Decides-eqb}
 use Rattle.std.proofs.lemmas.List.Folds.{list_any_at, list_any_none}
 use Rattle.std.proofs.lemmas.List.{get_or_default}
 use Rattle.std.proofs.lemmas.List.Prefix.{front_fits, front_from_reads, front_reads}
 use Rattle.std.proofs.lemmas.Slice.Eq.{starts_is}
-use Rattle.memchr.specs.Find.{FindsNeedle, IsFirstByte, OccursAt}
+use Rattle.memchr.specs.Find.{FindsNeedle, IsFirstByte, OccursAt, is_byte2}
 use Rattle.b3_lines.specs.Names.{Spells, backslash, carriage_return, has_bad_escape, holds_bad_character, holds_replacement_character, itself, line_feed, no_bytes, replacement_character}
 use Rattle.b3_lines.specs.Reading.{name_of}
 use Rattle.b3_lines.proofs.Escapes.{Spells-unescaped}
@@ -96,6 +96,22 @@ is_some-FindsNeedle s None none =
     let found = occurs-from_holds s holds in
     none found.0 (omega arith) (omega (arith, found.1.fits)) found.1))
 is_some-FindsNeedle s (Some k) found = sym (holds-from_occurs s k found.1)
+
+-- where neither NUL nor the first byte of U+FFFD stands, there is no bad character
+pub holds_bad_character-none : (s : List ℕ) (r : Option ℕ) → IsFirstByte (is_byte2 0 0xEF) s r → is_none r ≡ true
+    → holds_bad_character s ≡ false
+unfolding holds_bad_character
+holds_bad_character-none s (Some k) found is = cc is
+holds_bad_character-none s None none is =
+    let no_nul = list_any_none (λ b. b == 0) s (λ k d within.
+    rw (get_or_default s k d 0 within)
+    (or_parts (slice_index s k == 0) _ (false_from_ne_true _ (none k (omega arith) within))).0) in
+    let no_replacement = false_from_ne_true (holds_replacement_character s) (λ holds.
+    let found = occurs-from_holds s holds in
+    let first = ap (slice_index s) (sym (add-zero found.0)) ∙ found.1.reads 0 (omega arith) in
+    none found.0 (omega arith) (omega (arith, found.1.fits))
+    (or_right (slice_index s found.0 == 0) _ (eq-eqb _ 0xEF first))) in
+    ap (λ b. b || holds_replacement_character s) no_nul ∙ no_replacement
 
 -- both searches
 pub holds_bad_character-first : (s : List ℕ) → list_any (λ b. b == 0) s ≡ true → holds_bad_character s ≡ true

@@ -5,7 +5,7 @@ ghost use Rattle.std.specs.String.{string_bytes};
 ghost use Rattle.memchr.specs.Find.{places};
 ghost use Rattle.b3_lines.specs.Names.{escape, escape_meaning, escaped, has_bad_escape, holds_bad_character, is_escaped, may_follow_backslash, unescaped};
 
-use memchr::{memchr, memchr3, memchr3_iter, memmem};
+use memchr::{memchr, memchr2, memchr3, memchr3_iter, memmem};
 use std::alloc::{AllocError, Global};
 
 /// How many characters of a name are to be escaped.
@@ -98,5 +98,9 @@ pub(crate) fn unescaped(alloc: Global, text: &str, escapes: usize) -> Result<Str
 pub fn holds_bad_character(name: &[u8]) -> bool
     ensures { result ≡ holds_bad_character name.now }
 {
+    // The first byte of U+FFFD is seldom there, so that one search is mostly enough.
+    if memchr2(0, 0xEF, name).is_none() {
+        return false;
+    }
     memchr(0, name).is_some() || memmem::find(name, "\u{FFFD}".as_bytes()).is_some()
 }

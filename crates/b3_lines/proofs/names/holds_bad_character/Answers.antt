@@ -1,7 +1,12 @@
-use Rattle.std.proofs.Common.{List, ℕ, subst, sym, ◌∙◌}
+use Rattle.std.proofs.Common.{List, ℕ, ap, not, subst, sym, ◌∙◌}
 use Rattle.memchr.specs.Find.{FindsNeedle, is_byte}
-use Rattle.b3_lines.proofs.BadCharacters.{holds_bad_character-first, holds_bad_character-second, is_some-FindsNeedle, is_some-IsFirstByte}
+use Rattle.b3_lines.proofs.BadCharacters.{holds_bad_character-first, holds_bad_character-none, holds_bad_character-second, is_some-FindsNeedle, is_some-IsFirstByte}
 use Rattle.b3_lines.proofs.names.holds_bad_character.Goals as goal
+
+pub returns-then-is_none : goal.returns-then-is_none
+returns-then-is_none c =
+    sym (holds_bad_character-none c.args.name.now c.memchr2.result c.memchr2.ensures
+    (ap not (c.is_none.ensures ∙ ap not c.if-is_none.true)))
 
 pub returns-then-is_some : goal.returns-then-is_some
 returns-then-is_some c =
