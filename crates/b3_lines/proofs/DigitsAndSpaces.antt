@@ -1,15 +1,13 @@
 -- The digits of a digest, and the spaces after them.
-use Rattle.std.proofs.Common.{◌≡◌, ℕ, ◌≤◌, true, false, List, ◌++◌, length, take, drop, slice_index, Result, Ok, Err, refl, sym, ap, ◌∙◌, arith, append_assoc}
-use Rattle.std.specs.Prelude.{IsCharBoundary, IsOk, IsUtf8, bytes_eq}
+use Rattle.std.proofs.Common.{◌≡◌, ℕ, ◌≤◌, true, List, ◌++◌, length, take, drop, slice_index, Ok, refl, sym, ap, ◌∙◌, arith, append_assoc}
+use Rattle.std.specs.Prelude.{IsCharBoundary, IsUtf8, bytes_eq}
 use Rattle.std.specs.List.{AllPass, list_all}
-use Rattle.std.proofs.lemmas.Bool.{false_from_ne_true}
 use Rattle.std.proofs.lemmas.Str.{IsCharBoundary-after_ascii}
 use Rattle.std.proofs.lemmas.List.{drop-drop, drop_at, get_or-drop, get_or-take, take-append-drop, take_at}
 use Rattle.std.proofs.lemmas.List.Recursion.{and_at, and_from_places}
 use Rattle.std.proofs.lemmas.Slice.Eq.{bytes_eq-Decides}
-use Rattle.hex.specs.declared.error.FromHexError.{FromHexError}
-use Rattle.hex.specs.Hex.{decode_of, decode_sized, is_hex_digit}
-use Rattle.hex.proofs.HexLemmas.{IsOk-decode_sized, decode_of-digits, decode_sized-twice}
+use Rattle.hex.specs.Hex.{decode_of, is_hex_digit}
+use Rattle.hex.proofs.HexLemmas.{decode_of-digits, decode_of-ok}
 use Rattle.b3_lines.specs.Writing.{spaces}
 
 -- the test of each digit, as a computation
@@ -21,25 +19,9 @@ list_all-AllPass s each =
 pub AllPass-list_all : (s : List ℕ) → list_all is_hex_digit s ≡ true → AllPass is_hex_digit s
 AllPass-list_all s each i d within = and_at (list_all is_hex_digit) is_hex_digit refl (λ _ _. refl) s i d within each
 
--- a result that is `Ok x` is `Ok`
-IsOk-from_ok : {A E : Type 0} (r : Result A E) (x : A) → r ≡ Ok x → IsOk r
-IsOk-from_ok r x is = rw is refl
-
--- 64 bytes that decode are digits
-pub digits-from_ok : (s digest : List ℕ) → decode_sized s 32 ≡ Ok digest
-    → (list_all is_hex_digit s ≡ true) × (decode_of s ≡ Ok digest)
-digits-from_ok s digest ok =
-    let parts = (IsOk-decode_sized s 32).0 (IsOk-from_ok _ digest ok) in
-    (list_all-AllPass s parts.1, sym (decode_sized-twice s 32 parts.0) ∙ ok)
-
--- and 64 that do not decode are not
-pub digits-from_err : (s : List ℕ) (e : FromHexError) → length s ≡ 64 → decode_sized s 32 ≡ Err e
-    → list_all is_hex_digit s ≡ false
-digits-from_err s e count err =
-    false_from_ne_true _ (λ each.
-    let ok = (IsOk-decode_sized s 32).1 (count, AllPass-list_all s each) in
-    let no : IsOk {T = List ℕ} (Err e) = rw err at ok in
-    cc no)
+-- what decodes is digits
+pub list_all-from_ok : (s digest : List ℕ) → decode_of s ≡ Ok digest → list_all is_hex_digit s ≡ true
+list_all-from_ok s digest ok = list_all-AllPass s (decode_of-ok s digest ok).1
 
 -- 64 digits decode to one digest
 pub digest-from_digits : (s : List ℕ) → length s ≡ 64 → list_all is_hex_digit s ≡ true

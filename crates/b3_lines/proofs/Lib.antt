@@ -9,6 +9,7 @@ pub mod Written
 pub mod Texts
 -- a line as it is read: its digits and spaces, how its parts lie, the first refusal of it, and what it says where there
 -- is none
+pub mod DigitValues
 pub mod DigitsAndSpaces
 pub mod Layouts
 pub mod Refusals

@@ -8,6 +8,7 @@
 //! where it is anything else.
 #![tactic(auto)]
 
+mod digits;
 mod fault;
 mod line_ranges;
 mod names;

@@ -7,10 +7,10 @@ ghost use Rattle.b3_lines.specs.Names.{has_bad_escape, unescaped};
 ghost use Rattle.b3_lines.specs.Parts.{AreParts, HasParts, IsCut};
 ghost use Rattle.b3_lines.specs.Reading.{HasOneForm, HasOneOutcome, IsReadAs, after_mark, first_refusal, has_mark, is_tagged, layout_of, name_of, plain_layout, refusal_after_mark, refusal_of, shown_of, tagged_layout, without_carriage_return};
 
+use crate::digits::digest_of;
 use crate::fault::LineFault;
 use crate::line_ranges::Lines;
 use crate::names::{count_escapes, holds_bad_character, unescaped};
-use hex::FromHex;
 use std::alloc::{AllocError, Global};
 use std::str;
 
@@ -224,7 +224,7 @@ fn cut_plain(rest: &str) -> Result<Cut<'_>, LineFault>
     if bytes.len() < 66 {
         return Err(LineFault::Short);
     }
-    let Ok(digest) = <[u8; 32]>::from_hex(&bytes[..64]) else {
+    let Some(digest) = digest_of(&bytes[..64]) else {
         return Err(LineFault::NotDigits);
     };
     if &bytes[64..66] != b"  ".as_slice() {
@@ -246,7 +246,7 @@ fn cut_tagged(rest: &str) -> Result<Cut<'_>, LineFault>
         return Err(LineFault::Short);
     }
     let start = bytes.len() - 64;
-    let Ok(digest) = <[u8; 32]>::from_hex(&bytes[start..]) else {
+    let Some(digest) = digest_of(&bytes[start..]) else {
         return Err(LineFault::NotDigits);
     };
     if &bytes[start - 4..start] != b") = ".as_slice() {

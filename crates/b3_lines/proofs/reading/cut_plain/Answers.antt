@@ -3,10 +3,10 @@ use Rattle.std.specs.Prelude.{bytes_eq}
 use Rattle.std.specs.List.{list_all}
 use Rattle.std.proofs.lemmas.Bool.{le-ltb, lt-ltb, not-false, not-true}
 use Rattle.std.proofs.lemmas.List.{length-take-le}
-use Rattle.hex.specs.Hex.{decode_of, decode_sized, is_hex_digit}
+use Rattle.hex.specs.Hex.{decode_of, is_hex_digit}
 use Rattle.b3_lines.specs.Reading.{plain_layout}
 use Rattle.b3_lines.specs.Writing.{spaces}
-use Rattle.b3_lines.proofs.DigitsAndSpaces.{IsCharBoundary-name, digits-from_err, digits-from_ok}
+use Rattle.b3_lines.proofs.DigitsAndSpaces.{IsCharBoundary-name, list_all-from_ok}
 use Rattle.b3_lines.proofs.Refusals.{refusal-short, refusal-not_digits, refusal-no_spaces}
 use Rattle.b3_lines.proofs.reading.cut_plain.Goals as goal
 
@@ -17,8 +17,11 @@ returns-then-bytes-lt66-clause-refused c marked =
     let short = c.if-bytes-lt66.true in
     refusal-short marked (plain_layout rest) (lt-ltb (length rest) 66 (omega (arith, len, short)))
 
-pub slice_bounds-from_hex-end : goal.slice_bounds-from_hex-end
-slice_bounds-from_hex-end c = sym (length-take-le 64 c.as_bytes-bytes.result.now (omega arith))
+pub slice_bounds-digest_of-end : goal.slice_bounds-digest_of-end
+slice_bounds-digest_of-end c = sym (length-take-le 64 c.as_bytes-bytes.result.now (omega arith))
+
+pub digest_of-requires : goal.digest_of-requires
+digest_of-requires c = length-take-le 64 c.as_bytes-bytes.result.now (omega arith)
 
 pub returns-in_default-clause-refused : goal.returns-in_default-clause-refused
 returns-in_default-clause-refused c marked =
@@ -27,8 +30,7 @@ returns-in_default-clause-refused c marked =
     let enough = c.if-bytes-lt66.false in
     let long : 66 ≤ length rest = omega (arith, len, enough) in
     refusal-not_digits marked (plain_layout rest) (le-ltb (length rest) 66 long)
-    (digits-from_err (take 64 rest) c.in_default.field-0 (length-take-le 64 rest (omega (arith, long)))
-    (ap (λ t. decode_sized (take 64 t) 32) (sym c.as_bytes-bytes.ensures.value) ∙ sym c.in_default.ensures))
+    (ap (λ t. list_all is_hex_digit (take 64 t)) (sym c.as_bytes-bytes.ensures.value) ∙ c.in_default.ensures)
 
 pub returns-then-ne-clause-refused : goal.returns-then-ne-clause-refused
 returns-then-ne-clause-refused c marked =
@@ -38,7 +40,7 @@ returns-then-ne-clause-refused c marked =
     let enough = c.if-bytes-lt66.false in
     refusal-no_spaces marked (plain_layout rest) (le-ltb (length rest) 66 (omega (arith, len, enough)))
     (ap (λ t. list_all is_hex_digit (take 64 t)) (sym same)
-    ∙ (digits-from_ok (take 64 c.as_bytes-bytes.result.now) c.in-Ok.digest (sym c.in-Ok.ensures)).0)
+    ∙ list_all-from_ok (take 64 c.as_bytes-bytes.result.now) c.in-Some.digest c.in-Some.ensures)
     (ap (λ t. bytes_eq (take 2 (drop 64 t)) spaces) (sym same)
     ∙ ap (bytes_eq (take 2 (drop 64 c.as_bytes-bytes.result.now))) (sym c.as_slice.ensures)
     ∙ not-true _ (sym c.if-ne.ensures))
@@ -61,7 +63,7 @@ returns-clause-taken c =
     record {
       long = le-ltb (length rest) 66 (omega (arith, len, enough));
       digits = ap (λ t. decode_of (take 64 t)) (sym c.as_bytes-bytes.ensures.value)
-          ∙ (digits-from_ok (take 64 c.as_bytes-bytes.result.now) c.in-Ok.digest (sym c.in-Ok.ensures)).1;
+          ∙ c.in-Some.ensures;
       parted = ap (λ t. bytes_eq (take 2 (drop 64 t)) spaces) (sym c.as_bytes-bytes.ensures.value)
           ∙ ap (bytes_eq (take 2 (drop 64 c.as_bytes-bytes.result.now))) (sym c.as_slice.ensures)
           ∙ not-false _ (sym c.if-ne.ensures);

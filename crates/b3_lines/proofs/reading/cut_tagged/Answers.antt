@@ -2,11 +2,11 @@ use Rattle.std.proofs.Common.{◌≡◌, ◌≤◌, ◌-◌, sym, ap, ◌∙◌,
 use Rattle.std.specs.Prelude.{bytes_eq}
 use Rattle.std.specs.List.{list_all}
 use Rattle.std.proofs.lemmas.Bool.{le-ltb, not-false, not-true}
-use Rattle.std.proofs.lemmas.List.{length-drop, take_rest}
-use Rattle.hex.specs.Hex.{decode_of, decode_sized, is_hex_digit}
+use Rattle.std.proofs.lemmas.List.{take_rest}
+use Rattle.hex.specs.Hex.{decode_of, is_hex_digit}
 use Rattle.b3_lines.specs.Reading.{tagged_layout}
 use Rattle.b3_lines.specs.Writing.{tag_separator}
-use Rattle.b3_lines.proofs.DigitsAndSpaces.{digits-from_err, digits-from_ok}
+use Rattle.b3_lines.proofs.DigitsAndSpaces.{list_all-from_ok}
 use Rattle.b3_lines.proofs.Layouts.{IsCharBoundary-tag_prefix, IsCharBoundary-tag_separator}
 use Rattle.b3_lines.proofs.Refusals.{refusal-not_digits, refusal-no_spaces}
 use Rattle.b3_lines.proofs.reading.cut_tagged.Goals as goal
@@ -18,12 +18,9 @@ returns-in_default-clause-refused c marked =
     let len = c.as_bytes-bytes.ensures.len in
     let enough = c.if-bytes-lt76.false in
     let long : 76 ≤ length rest = omega (arith, len, enough) in
-    let count : length (drop (length rest - 64) rest) ≡ 64 =
-    omega (arith, length-drop (length rest - 64) rest, long) in
     refusal-not_digits marked (tagged_layout rest) (le-ltb (length rest) 76 long)
-    (digits-from_err (drop (length rest - 64) rest) c.in_default.field-0 count
-    (ap (λ t. decode_sized (drop (length t - 64) t) 32) (sym c.as_bytes-bytes.ensures.value)
-    ∙ ap (λ t. decode_sized t 32) (sym (take_rest bytes (length bytes - 64))) ∙ sym c.in_default.ensures))
+    (ap (λ t. list_all is_hex_digit (drop (length t - 64) t)) (sym c.as_bytes-bytes.ensures.value)
+    ∙ ap (list_all is_hex_digit) (sym (take_rest bytes (length bytes - 64))) ∙ c.in_default.ensures)
 
 pub returns-then-ne-clause-refused : goal.returns-then-ne-clause-refused
 returns-then-ne-clause-refused c marked =
@@ -37,7 +34,7 @@ returns-then-ne-clause-refused c marked =
     refusal-no_spaces marked (tagged_layout rest) (le-ltb (length rest) 76 (omega (arith, len, enough)))
     (ap (λ t. list_all is_hex_digit (drop (length t - 64) t)) (sym same)
     ∙ ap (list_all is_hex_digit) (sym (take_rest bytes start))
-    ∙ (digits-from_ok (take (length bytes - start) (drop start bytes)) c.in-Ok.digest (sym c.in-Ok.ensures)).0)
+    ∙ list_all-from_ok (take (length bytes - start) (drop start bytes)) c.in-Some.digest c.in-Some.ensures)
     (ap (λ t. bytes_eq (take 4 (drop (length t - 64 - 4) t)) tag_separator) (sym same)
     ∙ ap (bytes_eq (take 4 (drop (start - 4) bytes))) (sym c.as_slice.ensures)
     ∙ ap (λ n. bytes_eq (take n (drop (start - 4) bytes)) c.as_slice.result.now) (sym four)
@@ -79,7 +76,7 @@ returns-clause-taken c =
       long = le-ltb (length rest) 76 (omega (arith, len, enough));
       digits = ap (λ t. decode_of (drop (length t - 64) t)) (sym same)
           ∙ ap decode_of (sym (take_rest bytes start))
-          ∙ (digits-from_ok (take (length bytes - start) (drop start bytes)) c.in-Ok.digest (sym c.in-Ok.ensures)).1;
+          ∙ c.in-Some.ensures;
       parted = ap (λ t. bytes_eq (take 4 (drop (length t - 64 - 4) t)) tag_separator) (sym same)
           ∙ ap (bytes_eq (take 4 (drop (start - 4) bytes))) (sym c.as_slice.ensures)
           ∙ ap (λ n. bytes_eq (take n (drop (start - 4) bytes)) c.as_slice.result.now) (sym four)
