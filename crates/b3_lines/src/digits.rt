@@ -1,9 +1,9 @@
-//! The digits of a digest, read. The loop has no way out, so that it is compiled to vectors: the library's, which has
-//! one at the first byte that is no digit, costs several times as much.
+//! The digits of a digest, read and written. No loop has a way out or looks a digit up in a table, so that each is
+//! compiled to vectors: those of the library, which do, cost several times as much.
 
-ghost use Rattle.std.specs.Prelude.{◌≡◌, length, false, Ok, MatchOption, unwrap_or};
+ghost use Rattle.std.specs.Prelude.{◌≡◌, ◌*◌, ◌<◌, length, false, Ok, MatchOption, slice_index, unwrap_or};
 ghost use Rattle.std.specs.List.{list_all};
-ghost use Rattle.hex.specs.Hex.{decode_of, hex_digit_value, is_hex_digit};
+ghost use Rattle.hex.specs.Hex.{decode_of, encode_lower, hex_digit_value, is_hex_digit, lower_digits};
 
 /// What `digit_value` gives for a byte that is no digit.
 const NO_DIGIT: u8 = 16;
@@ -38,5 +38,28 @@ fn digit_value(digit: u8) -> u8
         b'a'..=b'f' => digit - b'a' + 10,
         b'A'..=b'F' => digit - b'A' + 10,
         _ => NO_DIGIT,
+    }
+}
+
+/// Writes the digits of some bytes, in lower case, into room for just them.
+pub(crate) fn write_digits(bytes: &[u8], room: &mut [u8])
+    requires { length room.old ≡ 2 * length bytes.now }
+    ensures { room.new ≡ encode_lower bytes.now }
+{
+    for i in 0..bytes.len() {
+        room[2 * i] = digit_of(bytes[i] >> 4);
+        room[2 * i + 1] = digit_of(bytes[i] & 15);
+    }
+}
+
+/// The digit of a value, in lower case.
+fn digit_of(value: u8) -> u8
+    requires { value < 16 }
+    ensures { result ≡ slice_index lower_digits value }
+{
+    if value < 10 {
+        b'0' + value
+    } else {
+        b'a' + (value - 10)
     }
 }

@@ -8,6 +8,7 @@ ghost use Rattle.b3_lines.specs.Names.{holds_bad_character};
 ghost use Rattle.b3_lines.specs.Reading.{Reads};
 ghost use Rattle.b3_lines.specs.Writing.{mark, plain, plain_text, shown};
 
+use crate::digits::write_digits;
 use crate::fault::LineFault;
 use crate::names::{count_to_escape, holds_bad_character, push_escaped};
 use std::alloc::{AllocError, Global};
@@ -105,7 +106,7 @@ pub(crate) fn push_digits(line: &mut Vec<u8>, digest: &[u8]) -> Result<(), Alloc
     let mut digits = [0u8; 64];
     for piece in digest.chunks(32) {
         let room = &mut digits[..2 * piece.len()];
-        hex::encode_to_slice(piece, room).unwrap();
+        write_digits(piece, room);
         line.extend_from_slice(room)?;
     }
     Ok(())

@@ -1,7 +1,6 @@
 use Rattle.std.proofs.Common.{◌≡◌, ◌++◌, ◌∙◌, ap, append-nil, arith, sym}
 use Rattle.std.specs.Slice.Iter.{chunks_rest, chunks_size}
 use Rattle.std.proofs.lemmas.List.{nil_from_length}
-use Rattle.std.proofs.lemmas.Result.{IfOk-at_ok}
 use Rattle.hex.specs.Hex.{encode_lower}
 use Rattle.b3_lines.proofs.Written.{digits-step, encode_lower-nil}
 use Rattle.b3_lines.proofs.writing.push_digits.Goals as goal
@@ -10,16 +9,14 @@ pub loop-piece-preserved : goal.loop-piece-preserved
 loop-piece-preserved c =
     let steps = c.in-Some.ensures.steps in
     let kept = c.loop-piece.invariant in
-    let size : chunks_size c.next.new.self ≡ 32 = steps.0 ∙ kept.2 in
-    let written = IfOk-at_ok (λ _. c.encode_to_slice.new.output ≡ encode_lower c.in-Some.piece.now) c.unwrap.ensures
-    c.encode_to_slice.ensures.written in (
+    let size : chunks_size c.next.new.self ≡ 32 = steps.0 ∙ kept.2 in (
       omega (arith, size),
       tt,
       size,
-      digits-step c.loop-piece.line.items c.extend_from_slice.new.self.items c.encode_to_slice.new.output
+      digits-step c.loop-piece.line.items c.extend_from_slice.new.self.items c.write_digits.new.room
           c.in-Some.piece.now
           (chunks_rest c.next.new.self) (chunks_rest c.loop-piece.piece-iterator) _ kept.3
-          c.in_ok-extend_from_slice.ensures.items written steps.1.0,
+          c.in_ok-extend_from_slice.ensures.items c.write_digits.ensures steps.1.0,
     )
 
 pub returns : goal.returns
