@@ -4,6 +4,7 @@ ghost use Rattle.std.specs.Prelude.{◌≡◌, ◌+◌, ◌++◌, false, length,
 ghost use Rattle.std.specs.String.{string_bytes};
 ghost use Rattle.memchr.specs.Find.{places};
 ghost use Rattle.b3_lines.specs.Names.{escape, escape_meaning, escaped, has_bad_escape, holds_bad_character, is_escaped, may_follow_backslash, unescaped};
+ghost use Rattle.b3_lines.specs.Writing.{is_marked};
 
 use memchr::{memchr, memchr2, memchr3, memchr3_iter, memmem};
 use std::alloc::{AllocError, Global};
@@ -38,6 +39,18 @@ pub(crate) fn push_escaped(line: &mut Vec<u8>, name: &[u8]) -> Result<(), AllocE
         rest = &rest[at + 1..];
     }
     line.extend_from_slice(rest)
+}
+
+/// Appends the name, escaped where it is marked: another name has nothing to search for.
+pub(crate) fn push_name(line: &mut Vec<u8>, name: &[u8], marked: bool) -> Result<(), AllocError>
+    requires { marked ≡ is_marked name.now }
+    ensures { OnOk result (line.new.items ≡ line.old.items ++ escaped name.now) }
+{
+    if marked {
+        push_escaped(line, name)
+    } else {
+        line.extend_from_slice(name)
+    }
 }
 
 /// Whether a character may follow a backslash.

@@ -7,7 +7,7 @@ ghost use Rattle.b3_lines.specs.Reading.{ReadsTagged};
 ghost use Rattle.b3_lines.specs.Writing.{shown, tagged, tagged_text};
 
 use crate::fault::LineFault;
-use crate::names::push_escaped;
+use crate::names::push_name;
 use crate::writing::{begin_line, push_digits};
 use std::alloc::Global;
 
@@ -36,8 +36,9 @@ pub fn write_tagged(alloc: Global, digest: &[u8], name: &str) -> Result<Vec<u8>,
     ensures one_line { IfOk result (λ line. lines_of line.items ≡ tagged_text digest.now name.now ∷ []) }
 {
     let mut line = begin_line(alloc, digest, name, TAGGED_LEN)?;
+    let marked = !line.is_empty();
     line.extend_from_slice(b"BLAKE3 (")?;
-    push_escaped(&mut line, name.as_bytes())?;
+    push_name(&mut line, name.as_bytes(), marked)?;
     line.extend_from_slice(b") = ")?;
     push_digits(&mut line, digest)?;
     line.push(b'\n')?;

@@ -10,7 +10,7 @@ ghost use Rattle.b3_lines.specs.Writing.{mark, plain, plain_text, shown};
 
 use crate::digits::write_digits;
 use crate::fault::LineFault;
-use crate::names::{count_to_escape, holds_bad_character, push_escaped};
+use crate::names::{count_to_escape, holds_bad_character, push_escaped, push_name};
 use std::alloc::{AllocError, Global};
 
 /// How many bytes a plain line has beside its mark, its digits and its name.
@@ -38,9 +38,10 @@ pub fn write_line(alloc: Global, digest: &[u8], name: &str) -> Result<Vec<u8>, L
     ensures one_line { IfOk result (λ line. lines_of line.items ≡ plain_text digest.now name.now ∷ []) }
 {
     let mut line = begin_line(alloc, digest, name, PLAIN_LEN)?;
+    let marked = !line.is_empty();
     push_digits(&mut line, digest)?;
     line.extend_from_slice(b"  ")?;
-    push_escaped(&mut line, name.as_bytes())?;
+    push_name(&mut line, name.as_bytes(), marked)?;
     line.push(b'\n')?;
     Ok(line)
 }

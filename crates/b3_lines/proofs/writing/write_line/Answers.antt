@@ -10,10 +10,10 @@ use Rattle.b3_lines.proofs.writing.write_line.Goals as goal
 
 pub returns-clause-written : goal.returns-clause-written
 returns-clause-written c =
-    let named = c.in_ok-push_escaped.ensures
+    let named = c.in_ok-push_name.ensures
     ∙ ap (λ t. c.extend_from_slice.new.self.items ++ escaped t) c.as_bytes.ensures.value in
     plain-written c.args.digest.now c.args.name.now c.in_ok-line.line.items c.push_digits.new.line.items
-    c.extend_from_slice.new.self.items c.push_escaped.new.line.items c.push.new.self.items c.in_ok-line.ensures.begun
+    c.extend_from_slice.new.self.items c.push_name.new.line.items c.push.new.self.items c.in_ok-line.ensures.begun
     c.in_ok-push_digits.ensures c.in_ok-extend_from_slice.ensures.items named c.in_ok-push.ensures.items
 
 pub returns-clause-read_back : goal.returns-clause-read_back
