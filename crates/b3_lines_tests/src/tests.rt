@@ -1,6 +1,7 @@
 // Check lines by examples. A function of these tests holds few values that own memory where it may return: each return
 // lets them all go, and each of these steps is proved.
 
+mod digits;
 mod memory;
 mod read;
 mod written;
