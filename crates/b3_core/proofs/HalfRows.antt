@@ -8,7 +8,7 @@ use Rattle.std.proofs.lemmas.List.{take-map, drop-map, length-drop, length-take-
 use Rattle.b3_core.specs.Words.{word_at, words_of}
 use Rattle.b3_core.specs.Compression.{compress, initial_state, initial_value, output_words, rounds}
 use Rattle.b3_core.specs.Rows.{AreRows, message_of, row_words}
-use Rattle.b3_core.specs.Halves.{AreWide, AreWideRows, half, half_rows, half_words, of_half}
+use Rattle.b3_core.specs.Pairs.{AreWide, AreWideRows, half, half_rows, half_chaining, of_half}
 use Rattle.b3_core.specs.Lanes.{word_at_offset}
 use Rattle.b3_core.proofs.Lists.{elements, map-below}
 use Rattle.b3_core.proofs.LaneChunks.{word_at_offset-block, words_of-block}
@@ -89,12 +89,12 @@ wide-chaining_rows v rows = (
   length-zipped_row bit_xor v.1 v.3 rows.1 rows.3,
 )
 
-pub half_words-chaining_rows : (v : List ℕ × List ℕ × List ℕ × List ℕ) (p t d : ℕ) (h m s : List ℕ)
+pub half_chaining-chaining_rows : (v : List ℕ × List ℕ × List ℕ × List ℕ) (p t d : ℕ) (h m s : List ℕ)
     → AreWideRows v → p < 2
     → row_words (half_rows p v) ≡ rounds 7 s m → s ≡ initial_state h t 64 d
-    → half_words p (chaining_rows v) ≡ take 8 (compress h m t 64 d)
+    → half_chaining p (chaining_rows v) ≡ take 8 (compress h m t 64 d)
 unfolding compress
-half_words-chaining_rows v p t d h m s rows p_in after before =
+half_chaining-chaining_rows v p t d h m s rows p_in after before =
     (λ i. half-zip2 bit_xor p v.0 v.2 (rows.0 ∙ sym rows.2) i ++ half-zip2 bit_xor p v.1 v.3 (rows.1 ∙ sym rows.3) i)
     ∙ chaining-rows h (half_rows p v) (rows-half p v p_in rows)
     ∙ ap (λ v. take 8 (output_words v h)) (after ∙ ap (λ s. rounds 7 s m) before)
@@ -107,8 +107,8 @@ pub initial_state-half : (p first d : ℕ) (h : List ℕ × List ℕ) → p < 2
       take 4 initial_value ++ take 4 initial_value,
       first % 2 ^ 32 ∷ first / 2 ^ 32 ∷ 64 ∷ d ∷ (first + 1) % 2 ^ 32 ∷ (first + 1) / 2 ^ 32 ∷ 64 ∷ d ∷ [],
     ))
-    ≡ initial_state (half_words p h) (first + p) 64 d
-initial_state-half zero first d h p_in = ap (λ t. initial_state (half_words 0 h) t 64 d) (sym (add-zero first))
+    ≡ initial_state (half_chaining p h) (first + p) 64 d
+initial_state-half zero first d h p_in = ap (λ t. initial_state (half_chaining 0 h) t 64 d) (sym (add-zero first))
 initial_state-half (suc zero) first d h p_in = refl
 initial_state-half (suc (suc p)) first d h p_in = absurd (omega arith)
 
@@ -160,14 +160,14 @@ of_half-either (suc zero) a b c p_in first second = second refl
 of_half-either (suc (suc p)) a b c p_in first second = absurd (omega arith)
 
 -- words that stand in both halves
-pub half_words-twice : (h : List ℕ) (p : ℕ) → length h ≡ 8 → p < 2
-    → half_words p (
+pub half_chaining-twice : (h : List ℕ) (p : ℕ) → length h ≡ 8 → p < 2
+    → half_chaining p (
       map (λ i. get_or h i 0) (0 ∷ 1 ∷ 2 ∷ 3 ∷ 0 ∷ 1 ∷ 2 ∷ 3 ∷ []),
       map (λ i. get_or h i 0) (4 ∷ 5 ∷ 6 ∷ 7 ∷ 4 ∷ 5 ∷ 6 ∷ 7 ∷ []),
     ) ≡ h
-half_words-twice h zero long p_in = sym (elements h 8 long)
-half_words-twice h (suc zero) long p_in = sym (elements h 8 long)
-half_words-twice h (suc (suc p)) long p_in = absurd (omega arith)
+half_chaining-twice h zero long p_in = sym (elements h 8 long)
+half_chaining-twice h (suc zero) long p_in = sym (elements h 8 long)
+half_chaining-twice h (suc (suc p)) long p_in = absurd (omega arith)
 
 -- what holds of two and two holds of four, as far as they are needed
 pub two_and_two : (P : ℕ → List ℕ → Type 0) (a b : List (List ℕ)) (n : ℕ) → n ≤ 4

@@ -2,7 +2,7 @@
 // long for them as for eight.
 
 ghost use Rattle.std.specs.Prelude.{◌≡◌, ℕ, [], ◌+◌, ◌*◌, ◌^◌, ◌<◌, ◌≤◌, length, slice_index_or};
-ghost use Rattle.b3_core.specs.Halves.{AreWide, half_words};
+ghost use Rattle.b3_core.specs.Pairs.{AreWide, half_chaining};
 ghost use Rattle.b3_core.specs.Lanes.{chunk_chaining};
 
 use crate::lane_chunks::{BLOCKS, full_chunk_flags};
@@ -15,7 +15,7 @@ use std::simd::prelude::*;
 #[inline(always)]
 fn key_rows(k: &[u32; 8]) -> PairChainings
     ensures wide { AreWide result }
-    ensures words { (p : ℕ) → p < 2 → half_words p result ≡ k.now }
+    ensures words { (p : ℕ) → p < 2 → half_chaining p result ≡ k.now }
 {
     (
         u32x8::from_array([k[0], k[1], k[2], k[3], k[0], k[1], k[2], k[3]]),
@@ -27,7 +27,7 @@ fn key_rows(k: &[u32; 8]) -> PairChainings
 #[inline(always)]
 fn both_words(h: PairChainings) -> [[u32; 8]; 2]
     requires { AreWide h }
-    ensures { (p : ℕ) → p < 2 → slice_index_or result p [] ≡ half_words p h }
+    ensures { (p : ℕ) → p < 2 → slice_index_or result p [] ≡ half_chaining p h }
 {
     let a = h.0.to_array();
     let b = h.1.to_array();

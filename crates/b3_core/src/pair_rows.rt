@@ -6,7 +6,7 @@ ghost use Rattle.std.specs.Prelude.{◌≡◌, ℕ, ◌+◌, ◌^◌, ◌<◌, �
 ghost use Rattle.b3_core.specs.Words.{words_of};
 ghost use Rattle.b3_core.specs.Compression.{compress, initial_state, permuted, round, rounds};
 ghost use Rattle.b3_core.specs.Rows.{diagonalized, half_columns, message_of, row_words, undiagonalized};
-ghost use Rattle.b3_core.specs.Halves.{AreWide, AreWideRows, half, half_rows, half_words, of_half};
+ghost use Rattle.b3_core.specs.Pairs.{AreWide, AreWideRows, half, half_rows, half_chaining, of_half};
 
 use crate::compression::INITIAL_VALUE;
 use crate::lane_chunks::load4_pair;
@@ -199,7 +199,7 @@ fn initial_state(h: PairChainings, first: u64, d: u32) -> WideRows
     requires first { first + 2 ≤ 2 ^ 64 }
     ensures rows { AreWideRows result }
     ensures words { (p : ℕ) → p < 2
-        → row_words (half_rows p result) ≡ initial_state (half_words p h) (first + p) 64 d }
+        → row_words (half_rows p result) ≡ initial_state (half_chaining p h) (first + p) 64 d }
 {
     let (front, back) = h;
     let iv = INITIAL_VALUE;
@@ -228,8 +228,8 @@ pub(crate) fn pair_chainings(h: PairChainings, m: WideRows, first: u64, d: u32) 
     requires message { AreWideRows m }
     requires first { first + 2 ≤ 2 ^ 64 }
     ensures wide { AreWide result }
-    ensures words { (p : ℕ) → p < 2 → half_words p result
-        ≡ take 8 (compress (half_words p h) (message_of (row_words (half_rows p m))) (first + p) 64 d) }
+    ensures words { (p : ℕ) → p < 2 → half_chaining p result
+        ≡ take 8 (compress (half_chaining p h) (message_of (row_words (half_rows p m))) (first + p) 64 d) }
 {
     let v = initial_state(h, first, d);
     let (a, b, c, d) = rounds(v, m);
@@ -250,10 +250,10 @@ pub(crate) fn two_pair_chainings(
     requires messages { AreWideRows m × AreWideRows n }
     requires first { first + 4 ≤ 2 ^ 64 }
     ensures wide { AreWide result.0 × AreWide result.1 }
-    ensures front { (p : ℕ) → p < 2 → half_words p result.0
-        ≡ take 8 (compress (half_words p front) (message_of (row_words (half_rows p m))) (first + p) 64 d) }
-    ensures back { (p : ℕ) → p < 2 → half_words p result.1
-        ≡ take 8 (compress (half_words p back) (message_of (row_words (half_rows p n))) (first + 2 + p) 64 d) }
+    ensures front { (p : ℕ) → p < 2 → half_chaining p result.0
+        ≡ take 8 (compress (half_chaining p front) (message_of (row_words (half_rows p m))) (first + p) 64 d) }
+    ensures back { (p : ℕ) → p < 2 → half_chaining p result.1
+        ≡ take 8 (compress (half_chaining p back) (message_of (row_words (half_rows p n))) (first + 2 + p) 64 d) }
 {
     let v = initial_state(front, first, d);
     let w = initial_state(back, first + 2, d);

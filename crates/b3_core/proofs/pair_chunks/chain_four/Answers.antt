@@ -4,7 +4,7 @@ use Rattle.b3_core.specs.Words.{words_of}
 use Rattle.b3_core.specs.Compression.{compress}
 use Rattle.b3_core.specs.Chunks.{chaining_value_at, chunk_at}
 use Rattle.b3_core.specs.Rows.{message_of, row_words}
-use Rattle.b3_core.specs.Halves.{half_rows, half_words, of_half}
+use Rattle.b3_core.specs.Pairs.{half_rows, half_chaining, of_half}
 use Rattle.b3_core.proofs.LaneChunks.{after_blocks, after_blocks-suc, block-of_chunk, length-chunk_at}
 use Rattle.b3_core.specs.Lanes.{chunk_chaining}
 use Rattle.b3_core.proofs.HalfRows.{of_half-either, two_and_two}
@@ -29,7 +29,7 @@ inner-preserved c =
         c.two_pair_chainings-next.ensures.wide.1,
         (
           λ j j_in.
-              let h = half_words j c.inner.front in
+              let h = half_chaining j c.inner.front in
               let m = message_of (row_words (half_rows j c.message_rows-m.result)) in
               let place : of_half j (64 * k) (1024 + 64 * k) ≡ 1024 * j + 64 * k =
               of_half-either j (64 * k) (1024 + 64 * k) (1024 * j + 64 * k) j_in
@@ -42,7 +42,7 @@ inner-preserved c =
               (c.inner.invariant.1.1.0 j j_in)
               (c.message_rows-m.ensures.words j j_in ∙ ap words_of (block-of_chunk bytes _ j k k_in place)),
           λ j j_in within.
-              let h = half_words j c.inner.back in
+              let h = half_chaining j c.inner.back in
               let m = message_of (row_words (half_rows j c.message_rows-n.result)) in
               let place : of_half j (2048 + 64 * k) (last + 64 * k) ≡ 1024 * (2 + j) + 64 * k =
               of_half-either j (2048 + 64 * k) (last + 64 * k) (1024 * (2 + j) + 64 * k) j_in

@@ -1,11 +1,11 @@
 use Rattle.std.proofs.Common.{◌≡◌, ℕ, ◌+◌, ◌<◌}
 use Rattle.b3_core.specs.Chunks.{chunk_at}
-use Rattle.b3_core.specs.Halves.{AreWide, half_words}
+use Rattle.b3_core.specs.Pairs.{AreWide, half_chaining}
 use Rattle.b3_core.proofs.LaneChunks.{after_blocks}
 use Rattle.b3_core.proofs.pair_chunks.chain_four.Given as goal
 
 abbrev pub invariant-inner : goal.invariant-inner
 invariant-inner l = AreWide l.front × (AreWide l.back
-    × (((j : ℕ) → j < 2 → half_words j l.front ≡ after_blocks l.mode (l.first + j) (chunk_at l.bytes j) l.k)
+    × (((j : ℕ) → j < 2 → half_chaining j l.front ≡ after_blocks l.mode (l.first + j) (chunk_at l.bytes j) l.k)
     × ((j : ℕ) → j < 2 → 2 + j < l.n
-    → half_words j l.back ≡ after_blocks l.mode (l.first + 2 + j) (chunk_at l.bytes (2 + j)) l.k)))
+    → half_chaining j l.back ≡ after_blocks l.mode (l.first + 2 + j) (chunk_at l.bytes (2 + j)) l.k)))

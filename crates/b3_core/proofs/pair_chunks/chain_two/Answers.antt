@@ -4,7 +4,7 @@ use Rattle.b3_core.specs.Words.{words_of}
 use Rattle.b3_core.specs.Compression.{compress}
 use Rattle.b3_core.specs.Chunks.{chaining_value_at, chunk_at}
 use Rattle.b3_core.specs.Rows.{message_of, row_words}
-use Rattle.b3_core.specs.Halves.{half_rows, half_words, of_half}
+use Rattle.b3_core.specs.Pairs.{half_rows, half_chaining, of_half}
 use Rattle.b3_core.proofs.LaneChunks.{after_blocks, after_blocks-suc, block-of_chunk, length-chunk_at}
 use Rattle.b3_core.proofs.HalfRows.{of_half-either}
 use Rattle.b3_core.proofs.pair_chunks.chain_two.Goals as goal
@@ -20,7 +20,7 @@ inner-preserved c = (
       let bytes = c.args.bytes.now in
       let number : ℕ = c.args.first + j in
       let k : ℕ = c.inner.k in
-      let h = half_words j c.inner.h in
+      let h = half_chaining j c.inner.h in
       let m = message_of (row_words (half_rows j c.message_rows-m.result)) in
       let place : of_half j (64 * k) (1024 + 64 * k) ≡ 1024 * j + 64 * k =
       of_half-either j (64 * k) (1024 + 64 * k) (1024 * j + 64 * k) j_in (λ is. omega (arith, is)) (λ is. omega (arith, is)) in

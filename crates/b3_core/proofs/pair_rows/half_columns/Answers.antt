@@ -1,7 +1,7 @@
 use Rattle.std.proofs.Common.{◌≡◌, ◌++◌, sym, ap, ◌∙◌}
 use Rattle.std.specs.Simd.Lanes.{zip2}
 use Rattle.b3_core.specs.Words.{add32}
-use Rattle.b3_core.specs.Halves.{half, half_rows}
+use Rattle.b3_core.specs.Pairs.{half, half_rows}
 use Rattle.b3_core.proofs.HalfRows.{half-rotated_row, half-zip2, length-half, rows-half}
 use Rattle.b3_core.proofs.RowRounds.{added_rows, half_columns-rows, length-rotated_row, length-zipped_row, rotated_row}
 use Rattle.b3_core.proofs.pair_rows.half_columns.Goals as goal

@@ -1,6 +1,6 @@
 use Rattle.std.proofs.Common.{ℕ, ◌+◌, ◌*◌, length, [], ◌∷◌, ◌++◌, ◌∙◌}
 use Rattle.b3_core.specs.Rows.{message_of, row_words}
-use Rattle.b3_core.specs.Halves.{half_rows, of_half}
+use Rattle.b3_core.specs.Pairs.{half_rows, of_half}
 use Rattle.b3_core.specs.Lanes.{word_at_offset}
 use Rattle.b3_core.proofs.RowRounds.{picked}
 use Rattle.b3_core.proofs.HalfRows.{arranged-halves, four_by_four-block, of_half-within}

@@ -1,7 +1,7 @@
 use Rattle.std.proofs.Common.{[], ◌∷◌, ◌++◌, refl}
 use Rattle.b3_core.specs.Compression.{permuted}
 use Rattle.b3_core.specs.Rows.{message_of, row_words}
-use Rattle.b3_core.specs.Halves.{half_rows}
+use Rattle.b3_core.specs.Pairs.{half_rows}
 use Rattle.b3_core.proofs.RowRounds.{picked}
 use Rattle.b3_core.proofs.HalfRows.{same_on_halves}
 use Rattle.b3_core.proofs.pair_rows.permuted.Goals as goal

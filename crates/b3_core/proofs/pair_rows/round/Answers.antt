@@ -1,6 +1,6 @@
 use Rattle.std.proofs.Common.{List, ℕ, ap, ◌∙◌}
 use Rattle.b3_core.specs.Rows.{diagonalized, half_columns, row_words, undiagonalized}
-use Rattle.b3_core.specs.Halves.{half, half_rows}
+use Rattle.b3_core.specs.Pairs.{half, half_rows}
 use Rattle.b3_core.proofs.HalfRows.{rows-half}
 use Rattle.b3_core.proofs.RowRounds.{length-row_words, round-rows}
 use Rattle.b3_core.proofs.pair_rows.round.Goals as goal

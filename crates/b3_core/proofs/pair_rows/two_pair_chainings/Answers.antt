@@ -1,5 +1,5 @@
-use Rattle.b3_core.specs.Halves.{half_words}
-use Rattle.b3_core.proofs.HalfRows.{half_words-chaining_rows, wide-chaining_rows}
+use Rattle.b3_core.specs.Pairs.{half_chaining}
+use Rattle.b3_core.proofs.HalfRows.{half_chaining-chaining_rows, wide-chaining_rows}
 use Rattle.b3_core.proofs.pair_rows.two_pair_chainings.Goals as goal
 
 pub returns-clause-wide : goal.returns-clause-wide
@@ -9,10 +9,10 @@ returns-clause-wide c =
 
 pub returns-clause-front : goal.returns-clause-front
 returns-clause-front c p p_in =
-    half_words-chaining_rows c.rounds_by_turns.result.0 p _ c.args.d (half_words p c.args.front) _ _
+    half_chaining-chaining_rows c.rounds_by_turns.result.0 p _ c.args.d (half_chaining p c.args.front) _ _
     c.rounds_by_turns.ensures.rows.0 p_in (c.rounds_by_turns.ensures.first p p_in) (c.initial_state-v.ensures.words p p_in)
 
 pub returns-clause-back : goal.returns-clause-back
 returns-clause-back c p p_in =
-    half_words-chaining_rows c.rounds_by_turns.result.1 p _ c.args.d (half_words p c.args.back) _ _
+    half_chaining-chaining_rows c.rounds_by_turns.result.1 p _ c.args.d (half_chaining p c.args.back) _ _
     c.rounds_by_turns.ensures.rows.1 p_in (c.rounds_by_turns.ensures.second p p_in) (c.initial_state-w.ensures.words p p_in)

@@ -1,6 +1,6 @@
 use Rattle.std.proofs.Common.{[], ◌∷◌, ◌++◌, refl}
 use Rattle.b3_core.specs.Rows.{row_words, undiagonalized}
-use Rattle.b3_core.specs.Halves.{half_rows}
+use Rattle.b3_core.specs.Pairs.{half_rows}
 use Rattle.b3_core.proofs.RowRounds.{picked}
 use Rattle.b3_core.proofs.HalfRows.{same_on_halves}
 use Rattle.b3_core.proofs.pair_rows.undiagonalized.Goals as goal

@@ -11,8 +11,8 @@ abbrev pub half_rows : ℕ → List ℕ × List ℕ × List ℕ × List ℕ → 
 half_rows p v = (half p v.0, half p v.1, half p v.2, half p v.3)
 
 -- the chaining value in half p of two rows
-abbrev pub half_words : ℕ → List ℕ × List ℕ → List ℕ
-half_words p h = half p h.0 ++ half p h.1
+abbrev pub half_chaining : ℕ → List ℕ × List ℕ → List ℕ
+half_chaining p h = half p h.0 ++ half p h.1
 
 -- rows of two halves each
 abbrev pub AreWideRows : List ℕ × List ℕ × List ℕ × List ℕ → Type 0
