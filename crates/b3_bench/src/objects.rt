@@ -21,11 +21,8 @@ pub fn hash_objects(
     supply: &mut Supply<'_>,
     results: &mut Results,
 ) {
-    let mut mode = derive_mode(CONTEXT);
+    let mode = derive_mode(CONTEXT);
     for i in 0..size {
-        if i % 192 == 2 {
-            mode = derive_mode(CONTEXT);
-        }
         let object = supply.take(object_len(random));
         match i % 3 {
             _ if i % 32 == 31 => add_long_output(&mode, object, random, results),
