@@ -5,14 +5,11 @@ use Rattle.std.specs.Int.{rotate_right}
 use Rattle.std.specs.List.{range_with_len}
 use Rattle.std.specs.Simd.Lanes.{zip2}
 use Rattle.std.proofs.lemmas.List.{take-map, drop-map, length-drop, length-take-le}
-use Rattle.b3_core.specs.Words.{word_at, words_of}
 use Rattle.b3_core.specs.Compression.{compress, initial_state, initial_value, output_words, rounds}
 use Rattle.b3_core.specs.Rows.{AreRows, message_of, row_words}
 use Rattle.b3_core.specs.Pairs.{AreWide, AreWideRows, half, half_rows, half_chaining, of_half}
-use Rattle.b3_core.specs.Lanes.{word_at_offset}
-use Rattle.b3_core.proofs.Lists.{elements, map-below}
-use Rattle.b3_core.proofs.LaneChunks.{word_at_offset-block, words_of-block}
-use Rattle.b3_core.proofs.RowRounds.{length-zipped_row, picked, rotated_row, same_on_rows}
+use Rattle.b3_core.proofs.Lists.{elements}
+use Rattle.b3_core.proofs.RowRounds.{chaining-rows, length-zipped_row, picked, rotated_row}
 
 take-zip2 : (f : ℕ → ℕ → ℕ) (n : ℕ) (a b : List ℕ) → take n (zip2 f a b) ≡ zip2 f (take n a) (take n b)
 take-zip2 f zero a b = refl
@@ -72,14 +69,7 @@ same_on_halves f g first second v rows (suc zero) p_in =
     ∙ sym (λ i. g 1 (elements v.0 8 rows.0 i, elements v.1 8 rows.1 i, elements v.2 8 rows.2 i, elements v.3 8 rows.3 i))
 same_on_halves f g first second v rows (suc (suc p)) p_in = absurd (omega arith)
 
--- the chaining value that the rows of a state give
-chaining-rows : (h : List ℕ) (v : List ℕ × List ℕ × List ℕ × List ℕ) → AreRows v
-    → zip2 bit_xor v.0 v.2 ++ zip2 bit_xor v.1 v.3 ≡ take 8 (output_words (row_words v) h)
-chaining-rows h =
-    same_on_rows (λ v. zip2 bit_xor v.0 v.2 ++ zip2 bit_xor v.1 v.3) (λ v. take 8 (output_words (row_words v) h))
-    (λ a b c d. refl)
-
--- the two rows that it gives of both, and the chaining value in each half
+-- the two rows of chaining values that the rows of two states give, and the chaining value in each half
 abbrev pub chaining_rows : List ℕ × List ℕ × List ℕ × List ℕ → List ℕ × List ℕ
 chaining_rows v = (zip2 bit_xor v.0 v.2, zip2 bit_xor v.1 v.3)
 
@@ -128,25 +118,6 @@ pub arranged-halves : (a b c d : ℕ → ℕ → ℕ) (p : ℕ) → p < 2
 arranged-halves a b c d zero p_in = refl
 arranged-halves a b c d (suc zero) p_in = refl
 arranged-halves a b c d (suc (suc p)) p_in = absurd (omega arith)
-
--- the words of a block, by four
-pub four_by_four-block : (bytes : List ℕ) (start : ℕ) → start + 64 ≤ length bytes
-    → map (λ i. word_at_offset bytes (start + 4 * i)) (range_with_len 0 4)
-    ++ map (λ i. word_at_offset bytes (start + 16 + 4 * i)) (range_with_len 0 4)
-    ++ map (λ i. word_at_offset bytes (start + 32 + 4 * i)) (range_with_len 0 4)
-    ++ map (λ i. word_at_offset bytes (start + 48 + 4 * i)) (range_with_len 0 4)
-    ≡ words_of (take 64 (drop start bytes))
-four_by_four-block bytes start fits =
-    let block = take 64 (drop start bytes) in
-    let row : (offset n : ℕ) → offset ≡ start + 4 * n → n + 4 < 17
-    → map (λ i. word_at_offset bytes (offset + 4 * i)) (range_with_len 0 4)
-    ≡ map (λ i. word_at block (n + i)) (range_with_len 0 4) =
-    λ offset n offset_is n_in.
-    map-below (λ i. word_at_offset bytes (offset + 4 * i)) (λ i. word_at block (n + i)) 4
-    (λ i i_in. word_at_offset-block bytes start (offset + 4 * i) (n + i) (omega arith) (omega arith)) in
-    (λ i. row start 0 (omega arith) (omega arith) i ++ row (start + 16) 4 (omega arith) (omega arith) i
-    ++ row (start + 32) 8 (omega arith) (omega arith) i ++ row (start + 48) 12 (omega arith) (omega arith) i)
-    ∙ sym (words_of-block bytes start fits)
 
 -- where both fit, that of each half does
 pub of_half-within : (p a b n len : ℕ) → a + n ≤ len → b + n ≤ len → of_half p a b + n ≤ len

@@ -17,7 +17,7 @@ use Rattle.b3_core.specs.declared.modes.Mode.{Mode}
 use Rattle.b3_core.specs.declared.nodes.Node.{Node}
 use Rattle.b3_core.proofs.ChunkNodes.{block_node-whole, chaining_value_at-suc, chunk_node-last}
 use Rattle.b3_core.specs.Lanes.{full_chunk_flags, lane, word_at_offset}
-use Rattle.b3_core.proofs.Lists.{below_eight}
+use Rattle.b3_core.proofs.Lists.{below_eight, map-below}
 
 -- row j and row j + 4, four words each
 abbrev pub both : (ℕ → ℕ → ℕ) → ℕ → List ℕ
@@ -63,6 +63,25 @@ words_of-block bytes start fits =
     let long : length (take 64 (drop start bytes)) ≡ 64 =
     length-take-le 64 (drop start bytes) (omega (arith, length-drop start bytes)) in
     ap (λ n. map (word_at (take 64 (drop start bytes))) (range_with_len 0 (n / 4))) long
+
+-- the words of a block, by four
+pub four_by_four-block : (bytes : List ℕ) (start : ℕ) → start + 64 ≤ length bytes
+    → map (λ i. word_at_offset bytes (start + 4 * i)) (range_with_len 0 4)
+    ++ map (λ i. word_at_offset bytes (start + 16 + 4 * i)) (range_with_len 0 4)
+    ++ map (λ i. word_at_offset bytes (start + 32 + 4 * i)) (range_with_len 0 4)
+    ++ map (λ i. word_at_offset bytes (start + 48 + 4 * i)) (range_with_len 0 4)
+    ≡ words_of (take 64 (drop start bytes))
+four_by_four-block bytes start fits =
+    let block = take 64 (drop start bytes) in
+    let row : (offset n : ℕ) → offset ≡ start + 4 * n → n + 4 < 17
+    → map (λ i. word_at_offset bytes (offset + 4 * i)) (range_with_len 0 4)
+    ≡ map (λ i. word_at block (n + i)) (range_with_len 0 4) =
+    λ offset n offset_is n_in.
+    map-below (λ i. word_at_offset bytes (offset + 4 * i)) (λ i. word_at block (n + i)) 4
+    (λ i i_in. word_at_offset-block bytes start (offset + 4 * i) (n + i) (omega arith) (omega arith)) in
+    (λ i. row start 0 (omega arith) (omega arith) i ++ row (start + 16) 4 (omega arith) (omega arith) i
+    ++ row (start + 32) 8 (omega arith) (omega arith) i ++ row (start + 48) 12 (omega arith) (omega arith) i)
+    ∙ sym (words_of-block bytes start fits)
 
 -- a block of a chunk
 pub block-of_chunk : (bytes : List ℕ) (place j k : ℕ) → k < 16 → place ≡ 1024 * j + 64 * k

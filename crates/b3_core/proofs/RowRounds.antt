@@ -1,5 +1,5 @@
 -- The state as rows: a half of G on its four columns at once, and the diagonals as columns.
-use Rattle.std.proofs.Common.{◌≡◌, ℕ, List, [], ◌∷◌, ◌++◌, length, map, get_or, refl, sym, ap, ◌∙◌, arith, bit_xor}
+use Rattle.std.proofs.Common.{◌≡◌, ℕ, List, [], ◌∷◌, ◌++◌, length, map, take, get_or, refl, sym, ap, ◌∙◌, arith, bit_xor}
 use Rattle.std.proofs.Common.{length-append, w32}
 use Rattle.std.specs.Int.{rotate_right}
 use Rattle.std.specs.List.{range_with_len}
@@ -7,7 +7,7 @@ use Rattle.std.specs.Simd.Lanes.{zip2}
 use Rattle.std.proofs.lemmas.Simd.{length-zip2}
 use Rattle.std.proofs.lemmas.List.{length-map}
 use Rattle.b3_core.specs.Words.{add32}
-use Rattle.b3_core.specs.Compression.{half_g, round}
+use Rattle.b3_core.specs.Compression.{half_g, output_words, round}
 use Rattle.b3_core.specs.Rows.{AreRows, diagonalized, half_columns, message_of, row_words, undiagonalized}
 use Rattle.b3_core.proofs.Lists.{elements}
 use Rattle.b3_core.proofs.Rounds.{diagonals_together, length-half_g, round-together}
@@ -115,3 +115,10 @@ pub round-rows : (v : List ℕ) (m : List ℕ × List ℕ × List ℕ × List �
 round-rows v m count rows =
     same_on_rows (round_rows v) (λ m. round v (message_of (row_words m)))
     (λ a b c d. round_rows-words v a b c d count) m rows
+
+-- the chaining value that the rows of a state give
+pub chaining-rows : (h : List ℕ) (v : List ℕ × List ℕ × List ℕ × List ℕ) → AreRows v
+    → zip2 bit_xor v.0 v.2 ++ zip2 bit_xor v.1 v.3 ≡ take 8 (output_words (row_words v) h)
+chaining-rows h =
+    same_on_rows (λ v. zip2 bit_xor v.0 v.2 ++ zip2 bit_xor v.1 v.3) (λ v. take 8 (output_words (row_words v) h))
+    (λ a b c d. refl)

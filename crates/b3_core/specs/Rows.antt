@@ -11,12 +11,13 @@ row_words rows = rows.0 ++ rows.1 ++ rows.2 ++ rows.3
 abbrev pub AreRows : List ℕ × List ℕ × List ℕ × List ℕ → Type 0
 AreRows rows = (length rows.0 ≡ 4) × (length rows.1 ≡ 4) × (length rows.2 ≡ 4) × (length rows.3 ≡ 4)
 
--- the eight words of a chaining value as two rows
-abbrev pub half_words : List ℕ × List ℕ → List ℕ
-half_words halves = halves.0 ++ halves.1
+-- the eight words of a chaining value, of its two rows
+abbrev pub chaining_words : List ℕ × List ℕ → List ℕ
+chaining_words h = h.0 ++ h.1
 
-abbrev pub AreHalves : List ℕ × List ℕ → Type 0
-AreHalves halves = (length halves.0 ≡ 4) × (length halves.1 ≡ 4)
+-- four words in each
+abbrev pub AreChainingRows : List ℕ × List ℕ → Type 0
+AreChainingRows h = (length h.0 ≡ 4) × (length h.1 ≡ 4)
 
 -- a half of G on each column of the state v, with one word of x each
 abbrev pub half_columns : List ℕ → List ℕ → ℕ → ℕ → List ℕ

@@ -2,10 +2,10 @@
 
 ghost use Rattle.std.specs.Prelude.{◌≡◌, ℕ, List, ◌+◌, ◌*◌, ◌/◌, ◌%◌, ◌≤◌, length, take, drop};
 ghost use Rattle.b3_core.specs.Words.{words_of};
-ghost use Rattle.b3_core.specs.Chunks.{chaining_value_at};
+ghost use Rattle.b3_core.specs.Chunks.{chained_blocks, chaining_value_at};
 ghost use Rattle.b3_core.specs.Rows.{AreRows, row_words};
 
-use crate::compression::{Rows, arranged, chained, halves, joined};
+use crate::compression::{Rows, arranged, chained, chaining_rows, chaining_words};
 use crate::lane_chunks::load4;
 use crate::leaves::{BLOCK_LEN, block_flags};
 use crate::modes::Mode;
@@ -30,11 +30,14 @@ fn load_rows(bytes: &[u8], offset: usize) -> Rows
 /// block is not among them: that is [`last_block_node`](crate::last_block_node).
 pub fn chain_blocks(mode: &Mode, number: u64, index: usize, h: &[u32; 8], blocks: &[u8]) -> [u32; 8]
     requires { length blocks.now % 64 ≡ 0 }
-    ensures { (chunk : List ℕ) → h.now ≡ chaining_value_at mode.now number chunk index
+    ensures value { result ≡ chained_blocks mode.now number index h.now blocks.now (length blocks.now / 64) }
+
+    // Of a chunk's own blocks it is the chaining value that reaches the block after them.
+    ensures chunk { (chunk : List ℕ) → h.now ≡ chaining_value_at mode.now number chunk index
         → blocks.now ≡ take (length blocks.now) (drop (64 * index) chunk)
         → result ≡ chaining_value_at mode.now number chunk (index + length blocks.now / 64) }
 {
-    let mut value = halves(h);
+    let mut value = chaining_rows(h);
     let mut flags = block_flags(mode, index);
     'inner: for k in 0..blocks.len() / BLOCK_LEN {
         let m = arranged(load_rows(blocks, BLOCK_LEN * k));
@@ -42,5 +45,5 @@ pub fn chain_blocks(mode: &Mode, number: u64, index: usize, h: &[u32; 8], blocks
         value = next;
         flags = mode.flag;
     }
-    joined(value)
+    chaining_words(value)
 }

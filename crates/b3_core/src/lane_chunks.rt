@@ -144,7 +144,8 @@ pub(crate) fn chain_all_lanes(mode: &Mode, first: u64, bytes: &[u8]) -> [u32x8; 
     chain_lanes(mode, first, bytes, 8)
 }
 
-// The chaining values of up to eight full chunks. The lanes from `n` on are idle.
+// The chaining values of fewer than eight full chunks: the lanes from `n` on are idle. For one to four of them other
+// forms take less time.
 #[inline(never)]
 pub(crate) fn chain_some_lanes(mode: &Mode, first: u64, bytes: &[u8], n: usize) -> [u32x8; 8]
     requires some { 0 < n }

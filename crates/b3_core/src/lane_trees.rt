@@ -1,4 +1,4 @@
-// Subtrees of eight chunks and more, on lanes.
+// Trees of two chunks and more: of eight and more full chunks on lanes, of fewer by `chain_chunks`.
 
 ghost use Rattle.std.specs.Prelude.{◌≡◌, ℕ, ◌+◌, ◌*◌, ◌^◌, ◌<◌, ◌≤◌, length, take};
 ghost use Rattle.b3_core.specs.Nodes.{chaining};

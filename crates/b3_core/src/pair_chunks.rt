@@ -71,8 +71,8 @@ pub(crate) fn chain_four(mode: &Mode, first: u64, bytes: &[u8], n: usize) -> [[u
         let at = BLOCK_LEN * k;
         let flags = full_chunk_flags(mode, k);
         let m = message_rows(bytes, at, CHUNK_LEN + at);
-        let n = message_rows(bytes, 2 * CHUNK_LEN + at, last + at);
-        let next = two_pair_chainings(front, m, back, n, first, flags);
+        let w = message_rows(bytes, 2 * CHUNK_LEN + at, last + at);
+        let next = two_pair_chainings(front, m, back, w, first, flags);
         front = next.0;
         back = next.1;
     }

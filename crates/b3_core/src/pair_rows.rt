@@ -129,8 +129,8 @@ fn permuted(m: WideRows) -> WideRows
     )
 }
 
-// Seven rounds, written out: the rows of the messages stay in registers. They are long, so the compiler inlines them in
-// one place alone, and the next function has its own.
+// Seven rounds, written out: the rows of the messages stay in registers. So long a function is inlined only where it has
+// one caller, as this one and the next have.
 #[inline(always)]
 fn rounds(v: WideRows, m: WideRows) -> WideRows
     requires rows { AreWideRows v }

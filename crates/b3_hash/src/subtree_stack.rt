@@ -14,7 +14,7 @@ use b3_core::{CHUNK_LEN, Mode, Node, chain_chunks, parent_node, top};
 const MAX_DEPTH: usize = 54;
 
 // The level of a subtree of eight chunks, the least that fills the lanes.
-const EIGHT_CHUNKS: u32 = 3;
+const EIGHT_CHUNKS_LEVEL: u32 = 3;
 
 // How many chunks are closed, and the chaining values of the full subtrees that these make up: one for
 // each binary digit of their number that is one, the largest at the bottom of the stack.
@@ -137,7 +137,7 @@ impl SubtreeStack {
             → self.old.values.items ≡ stack_of 54 0 mode.now input self.old.chunks
             → self.new.values.items ≡ stack_of 54 0 mode.now input self.new.chunks }
     {
-        if level < EIGHT_CHUNKS {
+        if level < EIGHT_CHUNKS_LEVEL {
             return self.push_chunks(mode, bytes);
         }
         let first = &bytes[..subtree_len(level) as usize];

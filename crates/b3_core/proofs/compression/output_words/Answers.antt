@@ -20,8 +20,8 @@ words v h0 h1 =
 pub returns : goal.returns
 returns c =
     let v = c.args.v in
-    let h0 = elements c.args.h.0 4 c.requires.halves.0 in
-    let h1 = elements c.args.h.1 4 c.requires.halves.1 in
+    let h0 = elements c.args.h.0 4 c.requires.chaining.0 in
+    let h1 = elements c.args.h.1 4 c.requires.chaining.1 in
     (λ i. words v (h0 i) (h1 i))
     ∙ same_on_rows (λ v. words v (told c.args.h.0) (told c.args.h.1))
     (λ v. output_words (row_words v) (told c.args.h.0 ++ told c.args.h.1)) (λ a b c d. refl) v c.requires.rows

@@ -43,7 +43,7 @@ inner-preserved c =
               (c.message_rows-m.ensures.words j j_in ∙ ap words_of (block-of_chunk bytes _ j k k_in place)),
           λ j j_in within.
               let h = half_chaining j c.inner.back in
-              let m = message_of (row_words (half_rows j c.message_rows-n.result)) in
+              let m = message_of (row_words (half_rows j c.message_rows-w.result)) in
               let place : of_half j (2048 + 64 * k) (last + 64 * k) ≡ 1024 * (2 + j) + 64 * k =
               of_half-either j (2048 + 64 * k) (last + 64 * k) (1024 * (2 + j) + 64 * k) j_in
               (λ is. omega (arith, is)) (λ is. omega (arith, is, within, c.requires.room)) in
@@ -52,7 +52,7 @@ inner-preserved c =
               ∙ after_blocks-suc mode (c.args.first + 2 + j) (chunk_at bytes (2 + j)) k h m
               (length-chunk_at bytes c.args.n (2 + j) within c.requires.bytes) k_in (cases_eq k 15)
               (c.inner.invariant.1.1.1 j j_in within)
-              (c.message_rows-n.ensures.words j j_in ∙ ap words_of (block-of_chunk bytes _ (2 + j) k k_in place)),
+              (c.message_rows-w.ensures.words j j_in ∙ ap words_of (block-of_chunk bytes _ (2 + j) k k_in place)),
         ),
       ),
     )

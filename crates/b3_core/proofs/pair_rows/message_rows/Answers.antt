@@ -3,7 +3,8 @@ use Rattle.b3_core.specs.Rows.{message_of, row_words}
 use Rattle.b3_core.specs.Pairs.{half_rows, of_half}
 use Rattle.b3_core.specs.Lanes.{word_at_offset}
 use Rattle.b3_core.proofs.RowRounds.{picked}
-use Rattle.b3_core.proofs.HalfRows.{arranged-halves, four_by_four-block, of_half-within}
+use Rattle.b3_core.proofs.LaneChunks.{four_by_four-block}
+use Rattle.b3_core.proofs.HalfRows.{arranged-halves, of_half-within}
 use Rattle.b3_core.proofs.pair_rows.message_rows.Goals as goal
 
 pub returns-clause-words : goal.returns-clause-words

@@ -6,6 +6,6 @@ pub returns : goal.returns
 returns c =
     let node = c.args.self.now in
     let message = c.arranged-m.ensures.words ∙ c.message_rows.ensures.words in
-    c.joined.ensures
+    c.chaining_words.ensures
     ∙ c.chained.ensures.words
-    ∙ (λ i. take 8 (compress (c.halves.ensures.words i) (message i) node.t node.b node.d))
+    ∙ (λ i. take 8 (compress (c.chaining_rows.ensures.words i) (message i) node.t node.b node.d))

@@ -17,7 +17,7 @@ returns-clause-bytes c = λ before held.
     let empty : length (take self.block_len self.block) ≡ 0 =
     omega (arith, length-take self.block_len self.block, c.requires.empty) in
     let closed = HasBytes-chained mode c.args.number (chunk_state_of self) before blocks c.chain_blocks-self.result count
-    held empty whole c.chain_blocks-self.ensures in
+    held empty whole c.chain_blocks-self.ensures.chunk in
     let joined = append_assoc before blocks last
     ∙ ap (λ piece. before ++ piece) (take-piece (64 * count) (length bytes) bytes (omega arith)
     ∙ take_all (length bytes) bytes (omega arith)) in
