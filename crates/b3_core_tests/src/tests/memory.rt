@@ -2,8 +2,9 @@
 
 use super::vectors::KEY;
 use b3_core::{
-    BLOCK_LEN, CHUNK_LEN, Mode, Node, Span, block_node, chain_blocks, chain_chunks, chain8, chunk_node, chunks,
-    compress, compress8, is_subtree, last_block_node, left, parent_node, sibling, top,
+    BLOCK_LEN, CHUNK_LEN, Mode, Node, Span, block_node, chain_blocks, chain_chunks, chain8,
+    chunk_node, chunks, compress, compress8, is_subtree, last_block_node, left, parent_node,
+    sibling, top,
 };
 
 /// `make refused` refuses the first growth, here and in the next test: it is the one after the last call.
@@ -33,7 +34,10 @@ fn nodes_take_no_memory(rt: HostRuntime) {
     assert_eq!(rt; blocks[64..128], parent.block(1)[..]);
     let (block, _) = bytes.split_at(BLOCK_LEN);
     let open = block_node(&mode, 5, 0, &mode.key, block);
-    assert_eq!(rt; chain_blocks(&mode, 5, 0, &mode.key, block), open.chaining());
+    assert_eq!(rt;
+        chain_blocks(&mode, 5, 0, &mode.key, block),
+        open.chaining()
+    );
     let last = last_block_node(&mode, 5, 0, &mode.key, block);
     assert_eq!(rt;
         last,
