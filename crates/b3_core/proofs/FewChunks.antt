@@ -82,3 +82,12 @@ lone-chunk mode first bytes words lists front words_is one zero within =
     ∙ ap (λ l. get_or l 0 []) front ∙ words_is
     ∙ ap (λ n. chaining (chunk_node mode n (take 1024 bytes))) (sym (add-zero first))
 lone-chunk mode first bytes words lists front words_is one (suc j) within = absurd (omega arith)
+
+-- some lists among others, which they begin
+pub among : (lists eight : List (List ℕ)) (n j : ℕ) → take n eight ≡ lists → j < n → get_or eight j [] ≡ get_or lists j []
+among lists eight n j front j_in = sym (get_or-take n eight j [] j_in) ∙ ap (λ l. get_or l j []) front
+
+-- what holds at 0 holds below 1
+pub below_one : (P : ℕ → Type 0) → P 0 → (j : ℕ) → j < 1 → P j
+below_one P p zero j_in = p
+below_one P p (suc j) j_in = absurd (omega arith)

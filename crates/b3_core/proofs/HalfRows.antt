@@ -10,6 +10,13 @@ use Rattle.b3_core.specs.Rows.{AreRows, message_of, row_words}
 use Rattle.b3_core.specs.Pairs.{AreWide, AreWideRows, half, half_rows, half_chaining, of_half}
 use Rattle.b3_core.proofs.Lists.{elements}
 use Rattle.b3_core.proofs.RowRounds.{chaining-rows, length-zipped_row, picked, rotated_row}
+use Rattle.std.proofs.lemmas.Bool.{cases_eq}
+use Rattle.std.proofs.lemmas.List.{length-take}
+use Rattle.b3_core.specs.Words.{words_of}
+use Rattle.b3_core.specs.Chunks.{chunk_at}
+use Rattle.b3_core.specs.declared.modes.Mode.{Mode}
+use Rattle.b3_core.specs.Lanes.{after_blocks, full_chunk_flags}
+use Rattle.b3_core.proofs.LaneChunks.{after_blocks-suc, block-of_chunk}
 
 take-zip2 : (f : ℕ → ℕ → ℕ) (n : ℕ) (a b : List ℕ) → take n (zip2 f a b) ≡ zip2 f (take n a) (take n b)
 take-zip2 f zero a b = refl
@@ -150,3 +157,28 @@ two_and_two P a b n room front back (suc zero) j_in = front 1 (omega arith)
 two_and_two P a b n room front back (suc (suc zero)) j_in = back 0 (omega arith) j_in
 two_and_two P a b n room front back (suc (suc (suc zero))) j_in = back 1 (omega arith) j_in
 two_and_two P a b n room front back (suc (suc (suc (suc j)))) j_in = absurd (omega arith)
+
+-- one more block of the chunk in half p, which is chunk j of the bytes
+pub half-next : (mode : Mode) (bytes : List ℕ) (number j k place flags : ℕ) (h m next : List ℕ)
+    → place ≡ 1024 * j + 64 * k → k < 16 → place + 64 ≤ length bytes
+    → h ≡ after_blocks mode number (chunk_at bytes j) k
+    → m ≡ words_of (take 64 (drop place bytes))
+    → flags ≡ full_chunk_flags mode k
+    → next ≡ take 8 (compress h m number 64 flags)
+    → next ≡ after_blocks mode number (chunk_at bytes j) (k + 1)
+half-next mode bytes number j k place flags h m next place_is k_in within h_is m_is flags_is next_is =
+    let chunk = chunk_at bytes j in
+    let long = length-take 1024 (drop (1024 * j) bytes) in
+    let rest = length-drop (1024 * j) bytes in
+    next_is
+    ∙ ap (λ d. take 8 (compress h m number 64 d)) flags_is
+    ∙ after_blocks-suc mode number chunk k h m (omega (arith, long, rest)) (omega (arith, long)) (cases_eq k 15) h_is
+    (m_is ∙ ap words_of (block-of_chunk bytes place j k k_in place_is))
+
+-- what holds of two and of one holds of the first three of four
+pub two_and_one : (P : ℕ → List ℕ → Type 0) (a b c d : List ℕ) → P 0 a → P 1 b → P 2 c
+    → (j : ℕ) → j < 3 → P j (get_or (a ∷ b ∷ c ∷ d ∷ []) j [])
+two_and_one P a b c d first second third zero j_in = first
+two_and_one P a b c d first second third (suc zero) j_in = second
+two_and_one P a b c d first second third (suc (suc zero)) j_in = third
+two_and_one P a b c d first second third (suc (suc (suc j))) j_in = absurd (omega arith)

@@ -1,7 +1,7 @@
 -- Chunks on lanes: blocks that are loaded by rows of four words, and the compressions of a full chunk.
 use Rattle.std.proofs.Common.{◌≡◌, ℕ, ◌+◌, ◌*◌, ◌/◌, ◌<◌, ◌≤◌, List, [], ◌∷◌, ◌++◌, length, map, get_or, take, drop}
 use Rattle.std.proofs.Common.{refl, sym, ap, ◌∙◌, arith, w32, bit_or, ◌-◌, ◌⊎◌, inl, inr, ◌≢◌}
-use Rattle.std.specs.Prelude.{nat_eq, if◌then◌else◌}
+use Rattle.std.specs.Prelude.{if◌then◌else◌}
 use Rattle.std.specs.Int.{from_le_bytes}
 use Rattle.std.specs.List.{range_with_len}
 use Rattle.std.specs.Simd.Lanes.{pick_l}
@@ -16,7 +16,7 @@ use Rattle.b3_core.specs.Chunks.{last_block_node}
 use Rattle.b3_core.specs.declared.modes.Mode.{Mode}
 use Rattle.b3_core.specs.declared.nodes.Node.{Node}
 use Rattle.b3_core.proofs.ChunkNodes.{block_node-whole, chaining_value_at-suc, chunk_node-last}
-use Rattle.b3_core.specs.Lanes.{full_chunk_flags, lane, word_at_offset}
+use Rattle.b3_core.specs.Lanes.{after_blocks, full_chunk_flags, lane, word_at_offset}
 use Rattle.b3_core.proofs.Lists.{below_eight, map-below}
 
 -- row j and row j + 4, four words each
@@ -100,44 +100,37 @@ pub length-chunk_at : (bytes : List ℕ) (n j : ℕ) → j < n → 1024 * n ≤ 
 length-chunk_at bytes n j j_in fits =
     length-take-le 1024 (drop (1024 * j) bytes) (omega (arith, length-drop (1024 * j) bytes))
 
--- a whole block of a full chunk
-length-block_at : (chunk : List ℕ) (k : ℕ) → length chunk ≡ 1024 → k < 16
-    → length (take 64 (drop (64 * k) chunk)) ≡ 64
-length-block_at chunk k full k_in =
-    length-take-le 64 (drop (64 * k) chunk) (omega (arith, full, length-drop (64 * k) chunk))
+-- a whole block of a chunk
+length-block_at : (chunk : List ℕ) (k : ℕ) → 64 * k + 64 ≤ length chunk → length (take 64 (drop (64 * k) chunk)) ≡ 64
+length-block_at chunk k within = length-take-le 64 (drop (64 * k) chunk) (omega (arith, length-drop (64 * k) chunk))
 
--- the chaining value after k blocks of a full chunk
-abbrev pub after_blocks : Mode → ℕ → List ℕ → ℕ → List ℕ
-after_blocks mode number chunk k =
-    if nat_eq k 16 then chaining (chunk_node mode number chunk) else chaining_value_at mode number chunk k
-
-after_blocks-chaining_value_at : (mode : Mode) (number : ℕ) (chunk : List ℕ) (k : ℕ) → k ≢ 16
+pub after_blocks-chaining_value_at : (mode : Mode) (number : ℕ) (chunk : List ℕ) (k : ℕ) → k ≢ 16
     → after_blocks mode number chunk k ≡ chaining_value_at mode number chunk k
 after_blocks-chaining_value_at mode number chunk k inner =
     ap (λ b. if b then chaining (chunk_node mode number chunk) else chaining_value_at mode number chunk k)
     (ne_eqb k 16 inner)
 
 -- after one more block
-pub after_blocks-suc : (mode : Mode) (number : ℕ) (chunk : List ℕ) (k : ℕ) (h m : List ℕ) → length chunk ≡ 1024
-    → k < 16 → (k ≡ 15) ⊎ (k ≢ 15)
+pub after_blocks-suc : (mode : Mode) (number : ℕ) (chunk : List ℕ) (k : ℕ) (h m : List ℕ)
+    → 64 * k + 64 ≤ length chunk → length chunk ≤ 1024 → (k ≡ 15) ⊎ (k ≢ 15)
     → h ≡ after_blocks mode number chunk k
     → m ≡ words_of (take 64 (drop (64 * k) chunk))
     → take 8 (compress h m number 64 (full_chunk_flags mode k)) ≡ after_blocks mode number chunk (k + 1)
 unfolding last_block_node
-after_blocks-suc mode number chunk k h m full k_in (inl last) h_is m_is =
+after_blocks-suc mode number chunk k h m within short (inl last) h_is m_is =
     let block = take 64 (drop (64 * k) chunk) in
-    let is_last : k ≡ last_block_index chunk = omega (arith, full, last) in
+    let is_last : k ≡ last_block_index chunk = omega (arith, last) in
     let flags = ap (full_chunk_flags mode) last ∙ sym (ap (λ i. bit_or (block_flags mode i) 2) last) in
     ap (λ d. take 8 (compress h m number 64 d)) flags
     ∙ ap (λ (node : Node). chaining (record node { d = bit_or node.d 2 }))
-    (block_node-whole mode number k h m block (length-block_at chunk k full k_in) m_is)
-    ∙ ap chaining (chunk_node-last mode number chunk k k 64 h is_last is_last (omega (arith, full, last))
-    (h_is ∙ after_blocks-chaining_value_at mode number chunk k (λ is. omega (arith, is, k_in))))
+    (block_node-whole mode number k h m block (length-block_at chunk k within) m_is)
+    ∙ ap chaining (chunk_node-last mode number chunk k k 64 h is_last is_last (omega (arith, last))
+    (h_is ∙ after_blocks-chaining_value_at mode number chunk k (λ is. omega (arith, is, last))))
     ∙ sym (ap (λ i. after_blocks mode number chunk (i + 1)) last)
-after_blocks-suc mode number chunk k h m full k_in (inr inner) h_is m_is =
+after_blocks-suc mode number chunk k h m within short (inr inner) h_is m_is =
     let block = take 64 (drop (64 * k) chunk) in
     ap (λ b. take 8 (compress h m number 64 (if b then bit_or mode.flag 2 else block_flags mode k))) (ne_eqb k 15 inner)
-    ∙ ap chaining (block_node-whole mode number k h m block (length-block_at chunk k full k_in) m_is)
+    ∙ ap chaining (block_node-whole mode number k h m block (length-block_at chunk k within) m_is)
     ∙ chaining_value_at-suc mode number chunk k 64 h refl
-    (h_is ∙ after_blocks-chaining_value_at mode number chunk k (λ is. omega (arith, is, k_in)))
+    (h_is ∙ after_blocks-chaining_value_at mode number chunk k (λ is. omega (arith, is)))
     ∙ sym (after_blocks-chaining_value_at mode number chunk (k + 1) (λ is. inner (omega (arith, is))))

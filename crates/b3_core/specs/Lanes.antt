@@ -5,7 +5,7 @@ use Rattle.std.specs.Prelude.{slice_index_or, bit_or, nat_eq, if◌then◌else�
 use Rattle.std.specs.Int.{w32, from_le_bytes}
 use Rattle.b3_core.specs.Nodes.{chaining}
 use Rattle.b3_core.specs.Modes.{chunk_end_flag}
-use Rattle.b3_core.specs.Chunks.{block_flags, chunk_at, chunk_len, chunk_node}
+use Rattle.b3_core.specs.Chunks.{block_flags, chaining_value_at, chunk_at, chunk_len, chunk_node}
 use Rattle.b3_core.specs.declared.modes.Mode.{Mode}
 
 -- what lane j of a list of vectors holds
@@ -29,6 +29,11 @@ part w j input = take (chunk_len * w) (drop (chunk_len * w * j) input)
 -- the flags of block k of a full chunk
 abbrev pub full_chunk_flags : Mode → ℕ → ℕ
 full_chunk_flags mode k = if nat_eq k 15 then bit_or mode.flag chunk_end_flag else block_flags mode k
+
+-- the chaining value after k blocks of a chunk, which after sixteen is its own
+abbrev pub after_blocks : Mode → ℕ → List ℕ → ℕ → List ℕ
+after_blocks mode number chunk k =
+    if nat_eq k 16 then chaining (chunk_node mode number chunk) else chaining_value_at mode number chunk k
 
 -- the chaining value of chunk j of an input whose chunks are numbered from `first`
 abbrev pub chunk_chaining : Mode → ℕ → List ℕ → ℕ → List ℕ

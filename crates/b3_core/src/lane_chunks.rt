@@ -1,13 +1,15 @@
-// Chunks (BLAKE3 (2020), 2.4) on lanes: the chaining values of up to eight full chunks at once.
+// Chunks (BLAKE3 (2020), 2.4) on lanes: the chaining values of up to eight full chunks at once, or of blocks of a chunk in
+// place of the last.
 
-ghost use Rattle.std.specs.Prelude.{◌≡◌, ℕ, ◌++◌, ◌+◌, ◌*◌, ◌^◌, ◌<◌, ◌≤◌, length, map, take, drop, slice_index};
+ghost use Rattle.std.specs.Prelude.{◌≡◌, ℕ, ◌++◌, ◌+◌, ◌*◌, ◌^◌, ◌<◌, ◌≤◌, length, map, take, drop, slice_index, slice_index_or, []};
 ghost use Rattle.std.specs.List.{range_with_len};
 ghost use Rattle.b3_core.specs.Words.{words_of};
-ghost use Rattle.b3_core.specs.Lanes.{AreVectors, chunk_chaining, full_chunk_flags, lane, word_at_offset};
+ghost use Rattle.b3_core.specs.Chunks.{chaining_value_at, chunk_at};
+ghost use Rattle.b3_core.specs.Lanes.{AreVectors, after_blocks, chunk_chaining, full_chunk_flags, lane, word_at_offset};
 
 use crate::broadcast::broadcast;
 use crate::flags::CHUNK_END;
-use crate::lanes::{chainings8, counters_from};
+use crate::lanes::{all_lanes, chainings8, counters_from, lane_words};
 use crate::leaves::{BLOCK_LEN, CHUNK_LEN, block_flags};
 use crate::modes::Mode;
 use std::simd::prelude::*;
@@ -111,26 +113,90 @@ pub(crate) fn full_chunk_flags(mode: &Mode, k: usize) -> u32
     }
 }
 
-// The chaining values of `n` full chunks, numbered from `first` on. The lanes from `n` on are idle.
+// The chaining values of the chunks that the lanes take, numbered from `first` on, after the blocks from `from` on and before
+// `to` of each: `h` has those after the blocks before. An idle lane begins elsewhere, and its value is of no use.
 #[inline(always)]
-fn chain_lanes(mode: &Mode, first: u64, bytes: &[u8], n: usize) -> [u32x8; 8]
-    requires some { 0 < n }
-    requires room { n ≤ 8 }
-    requires bytes { 1024 * n ≤ length bytes.now }
+fn lane_blocks(
+    mode: &Mode,
+    first: u64,
+    bytes: &[u8],
+    offsets: &[usize; 8],
+    from: usize,
+    to: usize,
+    h: [u32x8; 8],
+) -> [u32x8; 8]
+    requires wide { AreVectors 8 h }
+    requires order { from ≤ to }
+    requires blocks { to ≤ 16 }
+    requires bytes { (j : ℕ) → j < 8 → slice_index offsets.now j + 64 * to ≤ length bytes.now }
     requires first { first ≤ 2 ^ 54 }
     ensures wide { AreVectors 8 result }
-    ensures lanes { (j : ℕ) → j < n → lane j result ≡ chunk_chaining mode.now first bytes.now j }
+    ensures lanes { (j : ℕ) → j < 8 → slice_index offsets.now j ≡ 1024 * j
+        → lane j h ≡ after_blocks mode.now (first + j) (chunk_at bytes.now j) from
+        → lane j result ≡ after_blocks mode.now (first + j) (chunk_at bytes.now j) to }
 {
-    let offsets = lane_offsets(n);
     let (low, high) = counters_from(first);
-    let mut h = broadcast(&mode.key);
-    'inner: for k in 0..BLOCKS {
-        let m = load16_transposed(bytes, &offsets, BLOCK_LEN * k);
+    let mut value = h;
+    'inner: for k in from..to {
+        let m = load16_transposed(bytes, offsets, BLOCK_LEN * k);
         let flags = full_chunk_flags(mode, k);
-        let next = chainings8(&h, &m, low, high, BLOCK_LEN as u32, flags);
-        h = next;
+        let next = chainings8(&value, &m, low, high, BLOCK_LEN as u32, flags);
+        value = next;
     }
-    h
+    value
+}
+
+// The same for all callers whose offsets are not known beforehand: one copy of the long loop, which is most of their code.
+#[inline(never)]
+fn some_lane_blocks(
+    mode: &Mode,
+    first: u64,
+    bytes: &[u8],
+    offsets: &[usize; 8],
+    from: usize,
+    to: usize,
+    h: [u32x8; 8],
+) -> [u32x8; 8]
+    requires wide { AreVectors 8 h }
+    requires order { from ≤ to }
+    requires blocks { to ≤ 16 }
+    requires bytes { (j : ℕ) → j < 8 → slice_index offsets.now j + 64 * to ≤ length bytes.now }
+    requires first { first ≤ 2 ^ 54 }
+    ensures wide { AreVectors 8 result }
+    ensures lanes { (j : ℕ) → j < 8 → slice_index offsets.now j ≡ 1024 * j
+        → lane j h ≡ after_blocks mode.now (first + j) (chunk_at bytes.now j) from
+        → lane j result ≡ after_blocks mode.now (first + j) (chunk_at bytes.now j) to }
+{
+    lane_blocks(mode, first, bytes, offsets, from, to, h)
+}
+
+// The chaining values of `n` full chunks, numbered from `first` on, and in list `n` that which reaches block `blocks` of the
+// chunk after them: this goes in a lane that would be idle.
+pub(crate) fn chain_lanes_beside(
+    mode: &Mode,
+    first: u64,
+    bytes: &[u8],
+    n: usize,
+    blocks: usize,
+) -> [[u32; 8]; 8]
+    requires some { 0 < n }
+    requires room { n < 8 }
+    requires blocks { blocks < 16 }
+    requires bytes { 1024 * n + 64 * blocks ≤ length bytes.now }
+    requires first { first ≤ 2 ^ 54 }
+    ensures chunks { (j : ℕ) → j < n → slice_index_or result j [] ≡ chunk_chaining mode.now first bytes.now j }
+    ensures beside { slice_index_or result n []
+        ≡ chaining_value_at mode.now (first + n) (chunk_at bytes.now n) blocks }
+{
+    let together = lane_offsets(n + 1);
+    let key = broadcast(&mode.key);
+    let h = some_lane_blocks(mode, first, bytes, &together, 0, blocks, key);
+    let beside = lane_words(&h, n);
+    let alone = lane_offsets(n);
+    let all = some_lane_blocks(mode, first, bytes, &alone, blocks, BLOCKS, h);
+    let mut lists = all_lanes(&all);
+    lists[n] = beside;
+    lists
 }
 
 // The chaining values of eight full chunks: the offsets are known, so the loads are plain.
@@ -141,12 +207,13 @@ pub(crate) fn chain_all_lanes(mode: &Mode, first: u64, bytes: &[u8]) -> [u32x8; 
     ensures wide { AreVectors 8 result }
     ensures lanes { (j : ℕ) → j < 8 → lane j result ≡ chunk_chaining mode.now first bytes.now j }
 {
-    chain_lanes(mode, first, bytes, 8)
+    let offsets = lane_offsets(8);
+    let key = broadcast(&mode.key);
+    lane_blocks(mode, first, bytes, &offsets, 0, BLOCKS, key)
 }
 
 // The chaining values of fewer than eight full chunks: the lanes from `n` on are idle. For one to four of them other
 // forms take less time.
-#[inline(never)]
 pub(crate) fn chain_some_lanes(mode: &Mode, first: u64, bytes: &[u8], n: usize) -> [u32x8; 8]
     requires some { 0 < n }
     requires room { n ≤ 8 }
@@ -155,5 +222,7 @@ pub(crate) fn chain_some_lanes(mode: &Mode, first: u64, bytes: &[u8], n: usize) 
     ensures wide { AreVectors 8 result }
     ensures lanes { (j : ℕ) → j < n → lane j result ≡ chunk_chaining mode.now first bytes.now j }
 {
-    chain_lanes(mode, first, bytes, n)
+    let offsets = lane_offsets(n);
+    let key = broadcast(&mode.key);
+    some_lane_blocks(mode, first, bytes, &offsets, 0, BLOCKS, key)
 }

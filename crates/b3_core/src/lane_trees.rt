@@ -6,11 +6,11 @@ ghost use Rattle.b3_core.specs.Tree.{chunks, parent_node, top};
 ghost use Rattle.b3_core.specs.Lanes.{AreChunkChainings, AreVectors, lane, part};
 
 use crate::broadcast::broadcast;
-use crate::few_chunks::chain_chunks;
+use crate::few_chunks::{chain_chunks, chain_chunks_beside};
 use crate::flags::PARENT;
 use crate::lane_chunks::chain_all_lanes;
 use crate::lanes::{chainings8, lane_words};
-use crate::leaves::{BLOCK_LEN, CHUNK_LEN, chunk_node};
+use crate::leaves::{BLOCK_LEN, CHUNK_LEN, last_block_node};
 use crate::modes::Mode;
 use crate::nodes::Node;
 use crate::tree::{chunks, left, parent_node};
@@ -92,21 +92,38 @@ fn chaining_from_chunks(mode: &Mode, first: u64, bytes: &[u8], chainings: &[[u32
     parent_node(mode, &left_chaining, &right_chaining).chaining()
 }
 
-// The chaining values of up to eight chunks, of which only the last may be short. The lists from their number on are
-// of no use.
+// The chaining values of one to seven full chunks and a short one after them. The lists from their number on are of no
+// use.
+fn chainings_with_short(mode: &Mode, first: u64, bytes: &[u8], full: usize) -> [[u32; 8]; 8]
+    requires some { 0 < full }
+    requires few { full < 8 }
+    requires more { 1024 * full < length bytes.now }
+    requires short { length bytes.now ≤ 1024 * full + 1024 }
+    requires first { first + full + 1 ≤ 2 ^ 54 }
+    ensures { AreChunkChainings mode.now first bytes.now (take (full + 1) result) }
+{
+    let (_, last) = bytes.split_at(CHUNK_LEN * full);
+    let blocks = (last.len() - 1) / BLOCK_LEN;
+    let mut chainings = chain_chunks_beside(mode, first, bytes, full, blocks);
+    let block = &last[BLOCK_LEN * blocks..];
+    let number = first + full as u64;
+    chainings[full] = last_block_node(mode, number, blocks, &chainings[full], block).chaining();
+    chainings
+}
+
+// The chaining values of two to eight chunks, of which only the last may be short. The lists from their number on are of
+// no use.
 fn chainings_of_few_chunks(mode: &Mode, first: u64, bytes: &[u8]) -> [[u32; 8]; 8]
-    requires some { 1024 ≤ length bytes.now }
+    requires some { 1024 < length bytes.now }
     requires few { length bytes.now ≤ 8192 }
     requires first { first + chunks (length bytes.now) ≤ 2 ^ 54 }
     ensures { AreChunkChainings mode.now first bytes.now (take (chunks (length bytes.now)) result) }
 {
     let full = bytes.len() / CHUNK_LEN;
-    let mut chainings = chain_chunks(mode, first, bytes);
     if CHUNK_LEN * full < bytes.len() {
-        let last = chunk_node(mode, first + full as u64, &bytes[CHUNK_LEN * full..]);
-        chainings[full] = last.chaining();
+        return chainings_with_short(mode, first, bytes, full);
     }
-    chainings
+    chain_chunks(mode, first, bytes)
 }
 
 // The top of the tree over two to eight chunks.

@@ -11,7 +11,6 @@ use Rattle.b3_core.specs.Tree.{parent_node, top}
 use Rattle.b3_core.specs.declared.modes.Mode.{Mode}
 use Rattle.b3_core.specs.declared.nodes.Node.{Node}
 use Rattle.b3_core.proofs.Subtrees.{top-chunk, top-joined}
-use Rattle.b3_core.proofs.Parts.{part-front}
 use Rattle.b3_hash.specs.Stacks.{subtree_bytes, subtree_chaining}
 use Rattle.b3_hash.proofs.ChunkCounts.{bytes-suc, chunks-suc, whole-runs}
 
@@ -125,14 +124,13 @@ subtree_chaining-chunk mode input count value node short node_is value_is =
     ∙ sym (subtree_chaining-at 0 mode input count (omega arith))
 
 -- a run of level 0 from the chunks of the bytes that follow
-pub subtree_chaining-chunk_at : (mode : Mode) (input bytes : List ℕ) (start j n count : ℕ)
-    → bytes ≡ drop (1024 * start) input → count ≡ start + j → 1024 * j + 1024 ≤ n
-    → chaining (chunk_node mode (start + j) (chunk_at (take n bytes) j)) ≡ subtree_chaining mode 0 input (count / 2 ^ 0)
-subtree_chaining-chunk_at mode input bytes start j n count bytes_is count_is within =
+pub subtree_chaining-chunk_at : (mode : Mode) (input bytes : List ℕ) (start j count : ℕ)
+    → bytes ≡ drop (1024 * start) input → count ≡ start + j
+    → chaining (chunk_node mode (start + j) (chunk_at bytes j)) ≡ subtree_chaining mode 0 input (count / 2 ^ 0)
+subtree_chaining-chunk_at mode input bytes start j count bytes_is count_is =
     let from : 1024 * start + 1024 * j ≡ 1024 * count = omega arith in
-    let chunk : chunk_at (take n bytes) j ≡ take 1024 (drop (1024 * count) input) =
-    part-front 1 j n bytes within
-    ∙ ap (λ b. take 1024 (drop (1024 * j) b)) bytes_is
+    let chunk : chunk_at bytes j ≡ take 1024 (drop (1024 * count) input) =
+    ap (λ b. take 1024 (drop (1024 * j) b)) bytes_is
     ∙ ap (take 1024) (drop-drop (1024 * j) (1024 * start) input ∙ ap (λ k. drop k input) from) in
     (λ i. chaining (chunk_node mode (sym count_is i) (chunk i)))
     ∙ ap chaining (sym (top-chunk mode count (take 1024 (drop (1024 * count) input))

@@ -140,12 +140,19 @@ impl ChunkHasher {
         ensures ends_with { (before : List ℕ) → IsAllClosed self.old before
             → (0 < self.old.count → 0 < length input.now) → EndsWith self.new result (before ++ input.now) }
     {
-        let (rest, level) = self.closed.push_all_but_last(&self.mode, input);
-        if level > 0 {
-            let node = top(&self.mode, self.closed.chunks, rest);
-            return Some(Window { node, level });
+        let last = self.closed.push_all_but_last(&self.mode, input);
+        if last.level > 0 {
+            let node = top(&self.mode, self.closed.chunks, last.bytes);
+            return Some(Window {
+                node,
+                level: last.level,
+            });
         }
-        self.last.append(&self.mode, self.closed.chunks, rest);
+        if let Some(h) = last.reached {
+            self.last.begin(h, last.bytes);
+            return None;
+        }
+        self.last.append(&self.mode, self.closed.chunks, last.bytes);
         None
     }
 

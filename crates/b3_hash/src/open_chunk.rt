@@ -1,6 +1,6 @@
 // The chunk that an incremental hash has begun (BLAKE3 (2020), 2.4).
 
-ghost use Rattle.std.specs.Prelude.{◌≡◌, ℕ, ◌+◌, ◌*◌, ◌<◌, ◌≤◌, [], ◌++◌, List, length};
+ghost use Rattle.std.specs.Prelude.{◌≡◌, ℕ, ◌+◌, ◌-◌, ◌*◌, ◌/◌, ◌<◌, ◌≤◌, [], ◌++◌, List, length};
 
 use b3_core::{BLOCK_LEN, Mode, Node, block_node, chain_blocks, last_block_node};
 
@@ -18,7 +18,7 @@ pub(crate) struct OpenChunk {
 }
 
 impl OpenChunk {
-    ghost use Rattle.b3_core.specs.Chunks.{chunk_node};
+    ghost use Rattle.b3_core.specs.Chunks.{chaining_value_at, chunk_node};
     ghost use Rattle.b3_core.specs.declared.modes.Mode.{Mode};
     ghost use Rattle.b3_hash.specs.OpenChunks.{HasBytes, IsChunkState};
     ghost use Rattle.b3_hash.specs.Private.{chunk_state_of};
@@ -35,6 +35,22 @@ impl OpenChunk {
             block: [0; BLOCK_LEN],
             block_len: 0,
         }
+    }
+
+    // Begins with all of these bytes, where the chaining value that reaches their last block is known.
+    pub(crate) fn begin(&mut self, h: [u32; 8], bytes: &[u8])
+        requires some { 0 < length bytes.now }
+        requires room { length bytes.now ≤ 1024 }
+        ensures len { 64 * self.new.closed_blocks + self.new.block_len ≡ length bytes.now }
+        ensures chunk_state { (mode : Mode) (number : ℕ)
+            → h ≡ chaining_value_at mode number bytes.now ((length bytes.now - 1) / 64)
+            → IsChunkState mode number (chunk_state_of self.new) bytes.now }
+    {
+        let blocks = (bytes.len() - 1) / BLOCK_LEN;
+        self.h = h;
+        self.block_len = 0;
+        self.closed_blocks = blocks;
+        self.extend_block(&bytes[BLOCK_LEN * blocks..]);
     }
 
     pub(crate) fn len(&self) -> usize

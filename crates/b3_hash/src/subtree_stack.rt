@@ -1,13 +1,16 @@
 // The chunks that an incremental hash has closed (BLAKE3 (2020), 5.1.2).
 
-ghost use Rattle.std.specs.Prelude.{◌≡◌, ℕ, ◌+◌, ◌-◌, ◌*◌, ◌/◌, ◌%◌, ◌^◌, ◌<◌, ◌≤◌, [], ◌++◌, List, count_ones, drop, max};
+ghost use Rattle.std.specs.Prelude.{◌≡◌, ℕ, ◌+◌, ◌-◌, ◌*◌, ◌/◌, ◌%◌, ◌^◌, ◌<◌, ◌≤◌, [], ◌++◌, List, count_ones, drop, max, IfSome};
 ghost use Rattle.std.specs.Prelude.{length};
 ghost use Rattle.arrayvec.specs.ArrayVec.{array_vec_len};
 ghost use Rattle.b3_core.specs.declared.modes.Mode.{Mode};
+ghost use Rattle.b3_core.specs.Chunks.{chaining_value_at};
 ghost use Rattle.b3_hash.specs.Stacks.{stack_of, subtree_chaining};
 
 use arrayvec::ArrayVec;
-use b3_core::{CHUNK_LEN, Mode, Node, chain_chunks, parent_node, top};
+use b3_core::{
+    BLOCK_LEN, CHUNK_LEN, Mode, Node, chain_chunks, chain_chunks_beside, parent_node, top,
+};
 
 // An input of fewer than 2^64 bytes has at most 2^54 chunks, of which the last is not closed: so the
 // number of closed chunks has at most 54 binary digits.
@@ -15,6 +18,18 @@ const MAX_DEPTH: usize = 54;
 
 // The level of a subtree of eight chunks, the least that fills the lanes.
 const EIGHT_CHUNKS_LEVEL: u32 = 3;
+
+// How many bytes eight chunks have.
+const FEW_LEN: usize = 8 * CHUNK_LEN;
+
+// The last subtree of some bytes, by its bytes and its level: and of a chunk the chaining value that reaches its last
+// block, where that is known.
+#[derive(Drop)]
+pub(crate) struct LastSubtree<'a> {
+    pub(crate) bytes: &'a [u8],
+    pub(crate) level: u32,
+    pub(crate) reached: Option<[u32; 8]>,
+}
 
 // How many chunks are closed, and the chaining values of the full subtrees that these make up: one for
 // each binary digit of their number that is one, the largest at the bottom of the stack.
@@ -95,18 +110,20 @@ impl SubtreeStack {
         full.ilog2().min(self.chunks.trailing_zeros())
     }
 
-    // Takes in the subtrees of the bytes but the last, and hands back the bytes of the last and its level.
-    // At level 0 it is a chunk, which may be short; else it is full.
-    pub(crate) fn push_all_but_last<'a>(&mut self, mode: &Mode, bytes: &'a [u8]) -> (&'a [u8], u32)
+    // Takes in the subtrees of the bytes but the last, and hands back the last. At level 0 it is a chunk, which may be
+    // short; else it is full.
+    pub(crate) fn push_all_but_last<'a>(&mut self, mode: &Mode, bytes: &'a [u8]) -> LastSubtree<'a>
         requires { 1024 * self.old.chunks + length bytes.now < 2 ^ 64 }
         ensures forward { self.old.chunks ≤ self.new.chunks }
-        ensures len { 1024 * self.new.chunks + length result.0.now ≡ 1024 * self.old.chunks + length bytes.now }
-        ensures rest { result.0.now ≡ drop (1024 * (self.new.chunks - self.old.chunks)) bytes.now }
-        ensures some { 0 < length bytes.now → 0 < length result.0.now }
-        ensures last { length result.0.now ≤ 1024 * 2 ^ result.1 }
-        ensures full { 0 < result.1 → length result.0.now ≡ 1024 * 2 ^ result.1 }
-        ensures level { result.1 < 54 }
-        ensures aligned { self.new.chunks % 2 ^ result.1 ≡ 0 }
+        ensures len { 1024 * self.new.chunks + length result.bytes.now ≡ 1024 * self.old.chunks + length bytes.now }
+        ensures rest { result.bytes.now ≡ drop (1024 * (self.new.chunks - self.old.chunks)) bytes.now }
+        ensures some { 0 < length bytes.now → 0 < length result.bytes.now }
+        ensures last { length result.bytes.now ≤ 1024 * 2 ^ result.level }
+        ensures full { 0 < result.level → length result.bytes.now ≡ 1024 * 2 ^ result.level }
+        ensures level { result.level < 54 }
+        ensures aligned { self.new.chunks % 2 ^ result.level ≡ 0 }
+        ensures reached { IfSome result.reached (λ h. (result.level ≡ 0) × (0 < length result.bytes.now)
+            × (h ≡ chaining_value_at mode.now self.new.chunks result.bytes.now ((length result.bytes.now - 1) / 64))) }
         ensures values { (before : List ℕ) → length before ≡ 1024 * self.old.chunks
             → self.old.values.items ≡ stack_of 54 0 mode.now before self.old.chunks
             → self.new.values.items ≡ stack_of 54 0 mode.now (before ++ bytes.now) self.new.chunks }
@@ -115,21 +132,61 @@ impl SubtreeStack {
         let mut level = self.next_level(rest.len());
         // Not `>=`: a full last subtree is not closed, since it is the root where nothing follows.
         while rest.len() as u64 > subtree_len(level) {
+            if rest.len() <= FEW_LEN {
+                return self.push_few(mode, rest);
+            }
             let count = self.push_first(mode, rest, level);
             let (_, others) = rest.split_at(CHUNK_LEN * count);
             rest = others;
             level = self.next_level(rest.len());
         }
-        (rest, level)
+        LastSubtree {
+            bytes: rest,
+            level,
+            reached: None,
+        }
     }
 
-    // Takes in the first of the bytes, of which more follow, and answers how many chunks these are: a subtree of this
-    // level, or small ones together.
+    // Takes in all chunks but the last, of bytes that have two to eight, and hands back the last. Its blocks but its last
+    // one are chained beside the others.
+    fn push_few<'a>(&mut self, mode: &Mode, bytes: &'a [u8]) -> LastSubtree<'a>
+        requires fits { 1024 * self.old.chunks + length bytes.now < 2 ^ 64 }
+        requires more { 1024 < length bytes.now }
+        requires few { length bytes.now ≤ 8192 }
+        ensures forward { self.old.chunks ≤ self.new.chunks }
+        ensures len { 1024 * self.new.chunks + length result.bytes.now ≡ 1024 * self.old.chunks + length bytes.now }
+        ensures rest { result.bytes.now ≡ drop (1024 * (self.new.chunks - self.old.chunks)) bytes.now }
+        ensures some { 0 < length result.bytes.now }
+        ensures last { length result.bytes.now ≤ 1024 }
+        ensures level { result.level ≡ 0 }
+        ensures reached { IfSome result.reached (λ h.
+            h ≡ chaining_value_at mode.now self.new.chunks result.bytes.now ((length result.bytes.now - 1) / 64)) }
+        ensures values { (input : List ℕ) → bytes.now ≡ drop (1024 * self.old.chunks) input
+            → self.old.values.items ≡ stack_of 54 0 mode.now input self.old.chunks
+            → self.new.values.items ≡ stack_of 54 0 mode.now input self.new.chunks }
+    {
+        let before = (bytes.len() - 1) / CHUNK_LEN;
+        let (_, last) = bytes.split_at(CHUNK_LEN * before);
+        let blocks = (last.len() - 1) / BLOCK_LEN;
+        let values = chain_chunks_beside(mode, self.chunks, bytes, before, blocks);
+        'chunks: for j in 0..before {
+            self.push(mode, values[j], 0);
+        }
+        LastSubtree {
+            bytes: last,
+            level: 0,
+            reached: Some(values[before]),
+        }
+    }
+
+    // Takes in the first of more than eight chunks, and answers how many these are: a subtree of this level, or small ones
+    // together.
     fn push_first(&mut self, mode: &Mode, bytes: &[u8], level: u32) -> usize
         requires level { level < 54 }
         requires fits { 1024 * self.old.chunks + length bytes.now < 2 ^ 64 }
         requires aligned { self.old.chunks % 2 ^ level ≡ 0 }
-        requires more { 1024 * 2 ^ level < length bytes.now }
+        requires subtree { 1024 * 2 ^ level < length bytes.now }
+        requires more { 8192 < length bytes.now }
         ensures some { 0 < result }
         ensures more { 1024 * result < length bytes.now }
         ensures chunks { self.new.chunks ≡ self.old.chunks + result }
@@ -146,11 +203,11 @@ impl SubtreeStack {
         first.len() / CHUNK_LEN
     }
 
-    // Takes in the chunks before the next multiple of eight, or those that there are but for the last byte's: their
-    // chaining values are made together, which takes less time than one subtree after the other.
+    // Takes in the chunks before the next multiple of eight: their chaining values are made together, which takes less time
+    // than one subtree after the other.
     fn push_chunks(&mut self, mode: &Mode, bytes: &[u8]) -> usize
         requires fits { 1024 * self.old.chunks + length bytes.now < 2 ^ 64 }
-        requires more { 1024 < length bytes.now }
+        requires more { 8192 < length bytes.now }
         ensures some { 0 < result }
         ensures more { 1024 * result < length bytes.now }
         ensures chunks { self.new.chunks ≡ self.old.chunks + result }
@@ -158,8 +215,7 @@ impl SubtreeStack {
             → self.old.values.items ≡ stack_of 54 0 mode.now input self.old.chunks
             → self.new.values.items ≡ stack_of 54 0 mode.now input self.new.chunks }
     {
-        let further = (bytes.len() - 1) / CHUNK_LEN;
-        let count = further.min(8 - (self.chunks % 8) as usize);
+        let count = 8 - (self.chunks % 8) as usize;
         let values = chain_chunks(mode, self.chunks, &bytes[..CHUNK_LEN * count]);
         'chunks: for j in 0..count {
             self.push(mode, values[j], 0);

@@ -6,8 +6,8 @@ ghost use Rattle.b3_core.specs.declared.nodes.Node.{Node};
 
 use super::vectors::{KEY, pattern};
 use b3_core::{
-    CHUNK_LEN, Mode, Node, chain_chunks, chain8, chunk_node, chunks, compress, compress8, left,
-    parent_node, top,
+    BLOCK_LEN, CHUNK_LEN, Mode, Node, chain_blocks, chain_chunks, chain_chunks_beside, chain8,
+    chunk_node, chunks, compress, compress8, left, parent_node, top,
 };
 use std::process::Abort;
 use std::test::Fail;
@@ -90,6 +90,21 @@ fn tops_around_whole_numbers_of_chunks(rt: HostRuntime) -> Result<(), Fail> {
     Ok(())
 }
 
+// The last chunk's blocks but its last one are chained with the chunks before it.
+#[test]
+fn tops_around_whole_numbers_of_blocks(rt: HostRuntime) -> Result<(), Fail> {
+    let bytes = pattern(rt.alloc(), 9300)?;
+    let mode = Mode::keyed(KEY);
+    for blocks in 1..145usize {
+        for more in 0..3usize {
+            let len = BLOCK_LEN * blocks + more - 1;
+            let (part, _) = bytes.split_at(len);
+            assert_same_top(&rt, &mode, part);
+        }
+    }
+    Ok(())
+}
+
 // One to eight full chunks together, with and without bytes of another after them, beside one chunk at a time: pairs
 // and lanes take over from one another between these numbers.
 #[test]
@@ -123,6 +138,63 @@ fn assert_chunks(rt: &impl Abort, mode: &Mode, first: u64, bytes: &[u8])
             bytes.len()
         );
     }
+}
+
+// One to seven full chunks, and the blocks of another beside them, to no more than these and with a byte after them; also
+// where the counters' low words wrap between the halves of a pair.
+#[test]
+fn blocks_beside_one_to_seven_chunks(rt: HostRuntime) -> Result<(), Fail> {
+    let bytes = pattern(rt.alloc(), 8300)?;
+    for mode in four_modes() {
+        for count in 1..8usize {
+            for blocks in 0..16usize {
+                let len = CHUNK_LEN * count + BLOCK_LEN * blocks;
+                for more in [0usize, 1] {
+                    let (part, _) = bytes.split_at(len + more);
+                    assert_beside(&rt, &mode, FIRST, part, count, blocks);
+                    assert_beside(&rt, &mode, FIRST + 3, part, count, blocks);
+                }
+            }
+        }
+    }
+    Ok(())
+}
+
+fn assert_beside(
+    rt: &impl Abort,
+    mode: &Mode,
+    first: u64,
+    bytes: &[u8],
+    count: usize,
+    blocks: usize,
+)
+    requires some { 0 < count }
+    requires room { count < 8 }
+    requires blocks { blocks < 16 }
+    requires bytes { 1024 * count + 64 * blocks ≤ length bytes.now }
+    requires first { first ≤ 2 ^ 53 }
+{
+    let lists = chain_chunks_beside(mode, first, bytes, count, blocks);
+    for j in 0..count {
+        let chunk = &bytes[CHUNK_LEN * j..CHUNK_LEN * j + CHUNK_LEN];
+        assert_eq!(rt;
+            lists[j],
+            chunk_node(mode, first + j as u64, chunk).chaining(),
+            "chunk {j} of {count} from {first} on, beside {blocks} blocks"
+        );
+    }
+    let (_, last) = bytes.split_at(CHUNK_LEN * count);
+    assert_eq!(rt;
+        lists[count],
+        chain_blocks(
+            mode,
+            first + count as u64,
+            0,
+            &mode.key,
+            &last[..BLOCK_LEN * blocks]
+        ),
+        "{blocks} blocks beside {count} chunks from {first} on"
+    );
 }
 
 const FIRST: u64 = 4_294_967_292;

@@ -2,9 +2,9 @@
 
 use super::vectors::KEY;
 use b3_core::{
-    BLOCK_LEN, CHUNK_LEN, Mode, Node, Span, block_node, chain_blocks, chain_chunks, chain8,
-    chunk_node, chunks, compress, compress8, is_subtree, last_block_node, left, parent_node,
-    sibling, top,
+    BLOCK_LEN, CHUNK_LEN, Mode, Node, Span, block_node, chain_blocks, chain_chunks,
+    chain_chunks_beside, chain8, chunk_node, chunks, compress, compress8, is_subtree,
+    last_block_node, left, parent_node, sibling, top,
 };
 
 /// `make refused` refuses the first growth, here and in the next test: it is the one after the last call.
@@ -26,6 +26,8 @@ fn nodes_take_no_memory(rt: HostRuntime) {
     let chainings = chain8(&mode, 5, &eight);
     assert_eq!(rt; chainings[0], chunk.chaining());
     assert_eq!(rt; chain_chunks(&mode, 5, &eight[..3000])[1], chainings[1]);
+    let beside = chain_chunks_beside(&mode, 5, &eight, 5, 1);
+    assert_eq!(rt; beside[1], chainings[1]);
     let parent = parent_node(&mode, &chainings[0], &chainings[1]);
     assert_eq!(rt; top(&mode, 5, &eight[..2048]), parent);
     assert_eq!(rt; top(&mode, 5, &eight).d, 4 | 16);

@@ -58,3 +58,16 @@ returns-clause-full c = λ some.
     let level = c.loop-rest.level in
     let two : 2 ^ 1 ≤ 2 ^ level = pow-le-pow_right (lit< tt) some in
     omega (arith, two, c.subtree_len.ensures.value, c.loop-rest-test.false, c.loop-rest.invariant.within)
+
+pub returns-then-rest-le-FEW_LEN-clause-values : goal.returns-then-rest-le-FEW_LEN-clause-values
+returns-then-rest-le-FEW_LEN-clause-values c = λ before len stack_is.
+    let bytes = c.args.bytes.now in
+    let start = c.args.self.now.chunks in
+    let chunks = c.loop-rest.self.chunks in
+    let held = c.loop-rest.invariant in
+    let from : 1024 * start + 1024 * (chunks - start) ≡ 1024 * chunks = omega (arith, held.forward) in
+    c.push_few.ensures.values (before ++ bytes)
+    (held.rest
+    ∙ sym (drop-behind before bytes (1024 * start) (1024 * (chunks - start)) len)
+    ∙ ap (λ k. drop k (before ++ bytes)) from)
+    (held.values before len stack_is)

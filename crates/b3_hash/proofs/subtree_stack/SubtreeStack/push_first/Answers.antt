@@ -16,5 +16,5 @@ returns-clause-values c input bytes_is stack_is =
     let value_is = c.chaining-value.ensures
     ∙ ap chaining (c.top.ensures.value ∙ ap (top mode chunks) (λ i. take (size i) (bytes_is i)))
     ∙ sym (subtree_chaining-at level mode input chunks c.requires.aligned) in
-    c.push.ensures.values input (omega (arith, len, c.requires.more)) value_is stack_is
+    c.push.ensures.values input (omega (arith, len, c.requires.subtree)) value_is stack_is
     ∙ ap (stack_of 54 0 mode input) (sym c.push.ensures.chunks)
