@@ -77,21 +77,21 @@ same_on_halves f g first second v rows (suc zero) p_in =
 same_on_halves f g first second v rows (suc (suc p)) p_in = absurd (omega arith)
 
 -- the two rows of chaining values that the rows of two states give, and the chaining value in each half
-abbrev pub chaining_rows : List ℕ × List ℕ × List ℕ × List ℕ → List ℕ × List ℕ
-chaining_rows v = (zip2 bit_xor v.0 v.2, zip2 bit_xor v.1 v.3)
+abbrev pub folded : List ℕ × List ℕ × List ℕ × List ℕ → List ℕ × List ℕ
+folded v = (zip2 bit_xor v.0 v.2, zip2 bit_xor v.1 v.3)
 
-pub wide-chaining_rows : (v : List ℕ × List ℕ × List ℕ × List ℕ) → AreWideRows v → AreWide (chaining_rows v)
-wide-chaining_rows v rows = (
+pub wide-folded : (v : List ℕ × List ℕ × List ℕ × List ℕ) → AreWideRows v → AreWide (folded v)
+wide-folded v rows = (
   length-zipped_row bit_xor v.0 v.2 rows.0 rows.2,
   length-zipped_row bit_xor v.1 v.3 rows.1 rows.3,
 )
 
-pub half_chaining-chaining_rows : (v : List ℕ × List ℕ × List ℕ × List ℕ) (p t d : ℕ) (h m s : List ℕ)
+pub half_chaining-folded : (v : List ℕ × List ℕ × List ℕ × List ℕ) (p t d : ℕ) (h m s : List ℕ)
     → AreWideRows v → p < 2
     → row_words (half_rows p v) ≡ rounds 7 s m → s ≡ initial_state h t 64 d
-    → half_chaining p (chaining_rows v) ≡ take 8 (compress h m t 64 d)
+    → half_chaining p (folded v) ≡ take 8 (compress h m t 64 d)
 unfolding compress
-half_chaining-chaining_rows v p t d h m s rows p_in after before =
+half_chaining-folded v p t d h m s rows p_in after before =
     (λ i. half-zip2 bit_xor p v.0 v.2 (rows.0 ∙ sym rows.2) i ++ half-zip2 bit_xor p v.1 v.3 (rows.1 ∙ sym rows.3) i)
     ∙ chaining-rows h (half_rows p v) (rows-half p v p_in rows)
     ∙ ap (λ v. take 8 (output_words v h)) (after ∙ ap (λ s. rounds 7 s m) before)

@@ -12,29 +12,10 @@ use crate::flags::CHUNK_END;
 use crate::lanes::{all_lanes, chainings8, counters_from, lane_words};
 use crate::leaves::{BLOCK_LEN, CHUNK_LEN, block_flags};
 use crate::modes::Mode;
+use crate::words::load4_pair;
 use std::simd::prelude::*;
 
 pub(crate) const BLOCKS: usize = 16;
-
-// Four words from this offset on.
-#[inline(always)]
-pub(crate) fn load4(bytes: &[u8], offset: usize) -> u32x4
-    requires { offset + 16 ≤ length bytes.now }
-    ensures { result ≡ map (λ i. word_at_offset bytes.now (offset + 4 * i)) (range_with_len 0 4) }
-{
-    u32x4::from_le_bytes(u8x16::from_slice(&bytes[offset..]))
-}
-
-// Four words from one offset on, and then four words from another.
-#[inline(always)]
-pub(crate) fn load4_pair(bytes: &[u8], offset: usize, next: usize) -> u32x8
-    requires offset { offset + 16 ≤ length bytes.now }
-    requires next { next + 16 ≤ length bytes.now }
-    ensures { result ≡ map (λ i. word_at_offset bytes.now (offset + 4 * i)) (range_with_len 0 4)
-        ++ map (λ i. word_at_offset bytes.now (next + 4 * i)) (range_with_len 0 4) }
-{
-    load4(bytes, offset).shuffle::<8>(load4(bytes, next), [0, 1, 2, 3, 4, 5, 6, 7])
-}
 
 // Four words of each lane: lane `j` reads from `offsets[j] + offset` on. Four rows of two lanes each are
 // exchanged in two steps that no word leaves its half of the vector in.
@@ -212,8 +193,8 @@ pub(crate) fn chain_all_lanes(mode: &Mode, first: u64, bytes: &[u8]) -> [u32x8; 
     lane_blocks(mode, first, bytes, &offsets, 0, BLOCKS, key)
 }
 
-// The chaining values of fewer than eight full chunks: the lanes from `n` on are idle. For one to four of them other
-// forms take less time.
+// The chaining values of one to eight full chunks: the lanes from `n` on are idle. For one to four of them other forms
+// take less time.
 pub(crate) fn chain_some_lanes(mode: &Mode, first: u64, bytes: &[u8], n: usize) -> [u32x8; 8]
     requires some { 0 < n }
     requires room { n ≤ 8 }

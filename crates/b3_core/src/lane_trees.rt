@@ -1,4 +1,5 @@
-// Trees of two chunks and more: of eight and more full chunks on lanes, of fewer by `chain_chunks`.
+// Trees of two chunks and more: of eight, sixteen and so on full chunks on lanes, of two to eight chunks of which the last may
+// be short by `chain_chunks` and `chain_chunks_beside`.
 
 ghost use Rattle.std.specs.Prelude.{◌≡◌, ℕ, ◌+◌, ◌*◌, ◌^◌, ◌<◌, ◌≤◌, length, take};
 ghost use Rattle.b3_core.specs.Nodes.{chaining};
@@ -57,8 +58,9 @@ fn eight_subtrees(mode: &Mode, first: u64, bytes: &[u8], level: u32) -> [u32x8; 
     }
     let half = bytes.len() / 2;
     let (front, back) = bytes.split_at(half);
+    let next = first + (half / CHUNK_LEN) as u64;
     let left = eight_subtrees(mode, first, front, level - 1);
-    let right = eight_subtrees(mode, first + (half / CHUNK_LEN) as u64, back, level - 1);
+    let right = eight_subtrees(mode, next, back, level - 1);
     parents8(mode, &left, &right)
 }
 

@@ -10,7 +10,7 @@ use crate::chunk_rows::chain_blocks;
 use crate::lane_chunks::{BLOCKS, full_chunk_flags};
 use crate::leaves::{BLOCK_LEN, CHUNK_LEN, last_block_node};
 use crate::modes::Mode;
-use crate::pair_rows::{PairChainings, message_rows, pair_chainings, two_pair_chainings};
+use crate::pair_rows::{PairChainings, load_pair_rows, pair_chainings, two_pair_chainings};
 use std::simd::prelude::*;
 
 // The key words, for both.
@@ -63,7 +63,7 @@ fn two_blocks(
     let mut value = h;
     'inner: for k in from..to {
         let at = BLOCK_LEN * k;
-        let m = message_rows(bytes, at, CHUNK_LEN + at);
+        let m = load_pair_rows(bytes, at, CHUNK_LEN + at);
         let next = pair_chainings(value, m, first, full_chunk_flags(mode, k));
         value = next;
     }
@@ -134,8 +134,8 @@ fn four_blocks(
     'inner: for k in from..to {
         let at = BLOCK_LEN * k;
         let flags = full_chunk_flags(mode, k);
-        let m = message_rows(bytes, at, CHUNK_LEN + at);
-        let w = message_rows(bytes, 2 * CHUNK_LEN + at, last + at);
+        let m = load_pair_rows(bytes, at, CHUNK_LEN + at);
+        let w = load_pair_rows(bytes, 2 * CHUNK_LEN + at, last + at);
         let next = two_pair_chainings(front, m, back, w, first, flags);
         front = next.0;
         back = next.1;

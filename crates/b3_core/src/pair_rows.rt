@@ -9,9 +9,9 @@ ghost use Rattle.b3_core.specs.Rows.{diagonalized, half_columns, message_of, row
 ghost use Rattle.b3_core.specs.Pairs.{AreWide, AreWideRows, half, half_rows, half_chaining, of_half};
 
 use crate::compression::INITIAL_VALUE;
-use crate::lane_chunks::load4_pair;
 use crate::lane_rotations::xor_rotated8;
 use crate::leaves::BLOCK_LEN;
+use crate::words::load4_pair;
 use std::simd::prelude::*;
 
 // Sixteen words of each, in their order: 0 to 3, 4 to 7, 8 to 11 and 12 to 15.
@@ -73,7 +73,7 @@ fn undiagonalized(v: WideRows) -> WideRows
 
 // The messages of two blocks, which begin at `offset` and at `next`, in the order in which a round takes their words.
 #[inline(always)]
-pub(crate) fn message_rows(bytes: &[u8], offset: usize, next: usize) -> WideRows
+pub(crate) fn load_pair_rows(bytes: &[u8], offset: usize, next: usize) -> WideRows
     requires offset { offset + 64 ≤ length bytes.now }
     requires next { next + 64 ≤ length bytes.now }
     ensures rows { AreWideRows result }

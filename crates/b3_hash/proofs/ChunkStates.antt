@@ -1,10 +1,13 @@
 -- An open chunk: of no bytes, with one more block closed, with more bytes, and its nodes.
-use Rattle.std.proofs.Common.{◌≡◌, ℕ, zero, suc, ◌+◌, ◌-◌, ◌*◌, ◌/◌, ◌<◌, ◌≤◌, List, [], ◌++◌, length, take, drop, refl}
+use Rattle.std.proofs.Common.{◌≡◌, ℕ, zero, suc, ◌+◌, ◌-◌, ◌*◌, ◌/◌, ◌<◌, ◌≤◌, List, [], ◌++◌, length, take, drop, replicate, refl, bit_or}
 use Rattle.std.proofs.Common.{sym, ap, ◌∙◌, add-one, arith}
 use Rattle.std.proofs.lemmas.List.{length-append, length-drop, drop_all, drop_at, take_all, take-append-le, drop-append-le}
 use Rattle.std.proofs.lemmas.List.{take-take, drop-take, take-append-drop}
 use Rattle.b3_core.specs.Nodes.{chaining}
-use Rattle.b3_core.specs.Chunks.{block_at, block_node, chaining_value_at, chunk_node, last_block_node}
+use Rattle.std.proofs.lemmas.List.{length-take-le}
+use Rattle.b3_core.specs.Words.{words_of}
+use Rattle.b3_core.specs.Chunks.{block_at, block_flags, block_node, chaining_value_at, chunk_node, last_block_node, padded}
+use Rattle.b3_core.proofs.ChunkNodes.{padded-whole}
 use Rattle.b3_core.specs.declared.modes.Mode.{Mode}
 use Rattle.b3_hash.specs.OpenChunks.{ChunkState, HasBytes, IsChunkState}
 
@@ -50,6 +53,27 @@ chunk_node-chunk_state mode number chunk_state bytes is_chunk_state fits =
     (λ i. last_block_node mode number chunk_state.blocks (held.h i) (block i))
     ∙ ap (λ k. last_block_node mode number k (chaining_value_at mode number bytes k) (block_at bytes k))
     is_chunk_state.last
+
+-- a short block is read as a whole one that zeros fill up
+pub last_block_node-padded : (mode : Mode) (number k : ℕ) (h block : List ℕ) (len : ℕ) → length block ≡ 64 → len ≤ 64
+    → drop len block ≡ replicate (64 - len) 0
+    → (let node = last_block_node mode number k h block in record node { b = len })
+    ≡ last_block_node mode number k h (take len block)
+unfolding last_block_node block_node
+last_block_node-padded mode number k h block len size fits zeros =
+    let count : len ≡ length (take len block) = sym (length-take-le len block (omega arith)) in
+    let whole : padded block ≡ padded (take len block) =
+    padded-whole block size
+    ∙ sym (take-append-drop len block)
+    ∙ (λ i. take len block ++ zeros i)
+    ∙ (λ i. take len block ++ replicate (64 - count i) 0) in
+    λ i. record {
+      h = h;
+      m = words_of (whole i);
+      t = number;
+      b = count i;
+      d = bit_or (block_flags mode k) 2;
+    }
 
 -- the open block, which is full, is closed
 pub HasBytes-closed : (mode : Mode) (number : ℕ) (chunk_state : ChunkState) (bytes h : List ℕ)

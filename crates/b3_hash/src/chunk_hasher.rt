@@ -1,6 +1,6 @@
 // The hash of an input whose last chunk is at hand by its bytes (BLAKE3 (2020), 5.1).
 
-ghost use Rattle.std.specs.Prelude.{◌≡◌, ℕ, ◌+◌, ◌*◌, ◌%◌, ◌^◌, ◌<◌, ◌≤◌, [], ◌++◌, List, length};
+ghost use Rattle.std.specs.Prelude.{◌≡◌, ℕ, ◌+◌, ◌*◌, ◌%◌, ◌^◌, ◌<◌, ◌≤◌, ◌↔◌, [], ◌++◌, List, IsTrue, length};
 
 use crate::open_chunk::OpenChunk;
 use crate::subtree_stack::SubtreeStack;
@@ -101,9 +101,17 @@ impl ChunkHasher {
         self.append_chunks(rest)
     }
 
-    // Takes in bytes of the open chunk, which has some already.
-    fn extend_chunk(&mut self, front: &[u8])
-        requires chunk_state { 0 < chunk_state_len self.old.chunk_state }
+    // How many bytes the open chunk has room for.
+    #[inline]
+    pub(crate) fn room(&self) -> usize
+        ensures { chunk_state_len self.now.chunk_state + result ≡ 1024 }
+    {
+        CHUNK_LEN - self.last.len()
+    }
+
+    // Takes in bytes of the open chunk.
+    #[inline]
+    pub(crate) fn extend_chunk(&mut self, front: &[u8])
         requires room { chunk_state_len self.old.chunk_state + length front.now ≤ 1024 }
         requires fits { chunks_len self.old + length front.now < 2 ^ 64 }
         ensures mode { self.new.mode ≡ self.old.mode }
@@ -116,7 +124,9 @@ impl ChunkHasher {
         self.last.append(&self.mode, self.closed.chunks, front);
     }
 
-    // Closes the open chunk, which is full.
+    // Closes the open chunk, which is full. It is not inlined: that would turn the frame of its caller by 16 bytes, and with
+    // it the stack on which a started thread keeps the vectors of the code on lanes (`tools/stack-places`).
+    #[inline(never)]
     fn close_chunk(&mut self)
         requires { chunk_state_len self.old.chunk_state ≡ 1024 }
         ensures mode { self.new.mode ≡ self.old.mode }
@@ -182,6 +192,23 @@ impl ChunkHasher {
             → node.now ≡ top self.old.mode self.old.count bytes → IsAllClosed self.new (before ++ bytes) }
     {
         self.closed.push(&self.mode, node.chaining(), level);
+    }
+
+    // Whether no chunk is closed.
+    #[inline]
+    pub(crate) fn has_none_closed(&self) -> bool
+        ensures { IsTrue result ↔ (self.now.count ≡ 0) }
+    {
+        self.closed.chunks == 0
+    }
+
+    // The node of the root, where no chunk is closed: that of the open one.
+    #[inline]
+    pub(crate) fn only_node(&self) -> Node
+        requires { self.now.count ≡ 0 }
+        ensures { (input : List ℕ) → EndsWithChunk self.now input → result ≡ top self.now.mode 0 input }
+    {
+        self.last.node(&self.mode, 0)
     }
 
     // The node of the root.

@@ -147,6 +147,24 @@ impl Hasher {
         if input.is_empty() {
             return;
         }
+        if self.window.is_none() && input.len() <= self.chunks.room() {
+            self.chunks.extend_chunk(input);
+            return;
+        }
+        self.append_past_chunk(input);
+    }
+
+    // The same where there is a window, or the open chunk has no room for the bytes. It is not inlined, so that little is
+    // done where it has.
+    #[inline(never)]
+    fn append_past_chunk(&mut self, input: &[u8])
+        requires some { 0 < length input.now }
+        requires fits { length_of self.old + length input.now < 2 ^ 64 }
+        ensures mode { mode_of self.new ≡ mode_of self.old }
+        ensures len { length_of self.new ≡ length_of self.old + length input.now }
+        ensures stands_for { (before : List ℕ) → StandsFor self.old before
+            → StandsFor self.new (before ++ input.now) }
+    {
         let last = match self.window {
             Some(window) => {
                 self.window = None;
@@ -232,10 +250,18 @@ impl Hasher {
         ensures one_output { (input other : List ℕ) → StandsFor self.now input → StandsFor self.now other
             → top (mode_of self.now) 0 input ≡ top (mode_of self.now) 0 other }
     {
+        // With no closed chunk the last node is the root. It is written once, where it is to stand.
+        if self.chunks.has_none_closed() {
+            if let Some(window) = self.window {
+                return Xof::from_node(window.node);
+            }
+            return Xof::from_node(self.chunks.only_node());
+        }
         Xof::from_node(self.root())
     }
 
     // The node of the root of the input so far.
+    #[inline(never)]
     pub(crate) fn root(&self) -> Node
         ensures { (input : List ℕ) → StandsFor self.now input → result ≡ top (mode_of self.now) 0 input }
     {

@@ -1,19 +1,21 @@
 // The chunk that an incremental hash has begun (BLAKE3 (2020), 2.4).
 
-ghost use Rattle.std.specs.Prelude.{◌≡◌, ℕ, ◌+◌, ◌-◌, ◌*◌, ◌/◌, ◌<◌, ◌≤◌, [], ◌++◌, List, length};
+ghost use Rattle.std.specs.Prelude.{◌≡◌, ℕ, ◌+◌, ◌-◌, ◌*◌, ◌/◌, ◌<◌, ◌≤◌, [], ◌++◌, List, drop, length, replicate};
 
-use b3_core::{BLOCK_LEN, Mode, Node, block_node, chain_blocks, last_block_node};
+use b3_core::{BLOCK_LEN, Mode, Node, chain_onto, last_block_node};
 
 // A chunk of at most 1,024 bytes so far: the chaining value of its closed blocks, how many these are,
-// and the open block, which is closed only when a further byte comes.
+// and the open block, which is closed only when a further byte comes. Zeros fill it up, so that it can be read as it is
+// where it is the last.
 #[derive(Clone, Copy)]
 pub(crate) struct OpenChunk {
     h: [u32; 8],
-    closed_blocks: usize,
     block: [u8; 64],
+    closed_blocks: usize,
     block_len: usize,
     ghost block_size: { length block ≡ 64 },
     ghost block_fits: { block_len ≤ 64 },
+    ghost padding: { drop block_len block ≡ replicate (64 - block_len) 0 },
     ghost chunk_fits: { 64 * closed_blocks + block_len ≤ 1024 },
 }
 
@@ -31,8 +33,8 @@ impl OpenChunk {
     {
         OpenChunk {
             h: mode.key,
-            closed_blocks: 0,
             block: [0; BLOCK_LEN],
+            closed_blocks: 0,
             block_len: 0,
         }
     }
@@ -48,6 +50,7 @@ impl OpenChunk {
     {
         let blocks = (bytes.len() - 1) / BLOCK_LEN;
         self.h = h;
+        self.block = [0; BLOCK_LEN];
         self.block_len = 0;
         self.closed_blocks = blocks;
         self.extend_block(&bytes[BLOCK_LEN * blocks..]);
@@ -60,12 +63,15 @@ impl OpenChunk {
     }
 
     // The node of the chunk as it is.
+    #[inline]
     pub(crate) fn node(&self, mode: &Mode, number: u64) -> Node
         ensures { (bytes : List ℕ) → IsChunkState mode.now number (chunk_state_of self.now) bytes
             → result ≡ chunk_node mode.now number bytes }
     {
-        let block = &self.block[..self.block_len];
-        last_block_node(mode, number, self.closed_blocks, &self.h, block)
+        Node {
+            b: self.block_len as u32,
+            ..last_block_node(mode, number, self.closed_blocks, &self.h, &self.block)
+        }
     }
 
     // Closes the open block, which is full: a further byte comes.
@@ -77,9 +83,9 @@ impl OpenChunk {
         ensures bytes { (bytes : List ℕ) → HasBytes mode.now number (chunk_state_of self.old) bytes
             → HasBytes mode.now number (chunk_state_of self.new) bytes }
     {
-        let node = block_node(mode, number, self.closed_blocks, &self.h, &self.block);
-        self.h = node.chaining();
+        chain_onto(mode, number, self.closed_blocks, &mut self.h, &self.block);
         self.closed_blocks += 1;
+        self.block = [0; BLOCK_LEN];
         self.block_len = 0;
     }
 
@@ -98,6 +104,22 @@ impl OpenChunk {
         self.block_len = end;
     }
 
+    // The same of bytes that fill the block: none, where it is full.
+    fn fill_block(&mut self, piece: &[u8])
+        requires block { self.old.block_len + length piece.now ≡ 64 }
+        requires chunk { 64 * self.old.closed_blocks + 64 ≤ 1024 }
+        ensures blocks { self.new.closed_blocks ≡ self.old.closed_blocks }
+        ensures len { self.new.block_len ≡ 64 }
+        ensures bytes { (mode : Mode) (number : ℕ) (bytes : List ℕ)
+            → HasBytes mode number (chunk_state_of self.old) bytes
+            → HasBytes mode number (chunk_state_of self.new) (bytes ++ piece.now) }
+    {
+        if piece.is_empty() {
+            return;
+        }
+        self.extend_block(piece);
+    }
+
     // Appends bytes where the open block has none. All whole blocks but the last are closed as they stand in the
     // bytes; only the last is copied.
     fn append_blocks(&mut self, mode: &Mode, number: u64, bytes: &[u8])
@@ -111,14 +133,19 @@ impl OpenChunk {
             → HasBytes mode.now number (chunk_state_of self.new) (before ++ bytes.now) }
     {
         let count = (bytes.len() - 1) / BLOCK_LEN;
+        if count == 0 {
+            self.extend_block(bytes);
+            return;
+        }
         let blocks = &bytes[..BLOCK_LEN * count];
-        self.h = chain_blocks(mode, number, self.closed_blocks, &self.h, blocks);
+        chain_onto(mode, number, self.closed_blocks, &mut self.h, blocks);
         self.closed_blocks += count;
         self.extend_block(&bytes[BLOCK_LEN * count..]);
     }
 
     // Appends bytes to the chunk. A full block is closed only when a further byte comes, so that it can
     // be the last.
+    #[inline]
     pub(crate) fn append(&mut self, mode: &Mode, number: u64, bytes: &[u8])
         requires { 64 * self.old.closed_blocks + self.old.block_len + length bytes.now ≤ 1024 }
         ensures len { 64 * self.new.closed_blocks + self.new.block_len
@@ -126,16 +153,29 @@ impl OpenChunk {
         ensures chunk_state { (before : List ℕ) → IsChunkState mode.now number (chunk_state_of self.old) before
             → IsChunkState mode.now number (chunk_state_of self.new) (before ++ bytes.now) }
     {
-        let room = BLOCK_LEN - self.block_len;
-        if bytes.len() <= room {
+        if bytes.len() <= BLOCK_LEN - self.block_len {
             self.extend_block(bytes);
             return;
         }
+        self.append_past_block(mode, number, bytes);
+    }
+
+    // The same of bytes that the open block has no room for. It is not inlined, so that little is done where there is room.
+    #[inline(never)]
+    fn append_past_block(&mut self, mode: &Mode, number: u64, bytes: &[u8])
+        requires more { 64 < self.old.block_len + length bytes.now }
+        requires chunk { 64 * self.old.closed_blocks + self.old.block_len + length bytes.now ≤ 1024 }
+        ensures len { 64 * self.new.closed_blocks + self.new.block_len
+            ≡ 64 * self.old.closed_blocks + self.old.block_len + length bytes.now }
+        ensures chunk_state { (before : List ℕ) → IsChunkState mode.now number (chunk_state_of self.old) before
+            → IsChunkState mode.now number (chunk_state_of self.new) (before ++ bytes.now) }
+    {
         if self.block_len == 0 {
             self.append_blocks(mode, number, bytes);
             return;
         }
-        self.extend_block(&bytes[..room]);
+        let room = BLOCK_LEN - self.block_len;
+        self.fill_block(&bytes[..room]);
         self.close_block(mode, number);
         self.append_blocks(mode, number, &bytes[room..]);
     }

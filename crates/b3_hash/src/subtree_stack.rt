@@ -194,10 +194,11 @@ impl SubtreeStack {
             → self.old.values.items ≡ stack_of 54 0 mode.now input self.old.chunks
             → self.new.values.items ≡ stack_of 54 0 mode.now input self.new.chunks }
     {
-        if level < EIGHT_CHUNKS_LEVEL {
+        let first = &bytes[..subtree_len(level) as usize];
+        // Where eight chunks or fewer are left after a small subtree, those go together.
+        if level < EIGHT_CHUNKS_LEVEL && bytes.len() - first.len() > FEW_LEN {
             return self.push_chunks(mode, bytes);
         }
-        let first = &bytes[..subtree_len(level) as usize];
         let value = top(mode, self.chunks, first).chaining();
         self.push(mode, value, level);
         first.len() / CHUNK_LEN

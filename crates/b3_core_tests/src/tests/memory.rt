@@ -3,7 +3,7 @@
 use super::vectors::KEY;
 use b3_core::{
     BLOCK_LEN, CHUNK_LEN, Mode, Node, Span, block_node, chain_blocks, chain_chunks,
-    chain_chunks_beside, chain8, chunk_node, chunks, compress, compress8, is_subtree,
+    chain_chunks_beside, chain_onto, chain8, chunk_node, chunks, compress, compress8, is_subtree,
     last_block_node, left, parent_node, sibling, top,
 };
 
@@ -40,6 +40,9 @@ fn nodes_take_no_memory(rt: HostRuntime) {
         chain_blocks(&mode, 5, 0, &mode.key, block),
         open.chaining()
     );
+    let mut value = mode.key;
+    chain_onto(&mode, 5, 0, &mut value, block);
+    assert_eq!(rt; value, open.chaining());
     let last = last_block_node(&mode, 5, 0, &mode.key, block);
     assert_eq!(rt;
         last,

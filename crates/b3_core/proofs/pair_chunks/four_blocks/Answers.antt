@@ -19,7 +19,7 @@ inner-preserved c =
           (λ is. omega (arith, is)) (λ is. omega (arith, is)) in
           half-next mode bytes (c.args.first + p) p k _ _ (half_chaining p c.inner.front) _ _ place
           (omega arith) (omega (arith, place)) (c.inner.invariant.front p p_in before)
-          (c.message_rows-m.ensures.words p p_in) c.full_chunk_flags-flags.ensures
+          (c.load_pair_rows-m.ensures.words p p_in) c.full_chunk_flags-flags.ensures
           (c.two_pair_chainings-next.ensures.front p p_in);
       back = λ p p_in at before.
           let place : of_half p (2048 + 64 * k) (last + 64 * k) ≡ 1024 * (2 + p) + 64 * k =
@@ -28,7 +28,7 @@ inner-preserved c =
           half-next mode bytes (c.args.first + 2 + p) (2 + p) k _ _ (half_chaining p c.inner.back) _ _ place
           (omega arith) (of_half-within p (2048 + 64 * k) (last + 64 * k) 64 (length bytes) (omega arith) (omega arith))
           (c.inner.invariant.back p p_in at before)
-          (c.message_rows-w.ensures.words p p_in) c.full_chunk_flags-flags.ensures
+          (c.load_pair_rows-w.ensures.words p p_in) c.full_chunk_flags-flags.ensures
           (c.two_pair_chainings-next.ensures.back p p_in);
     }
 

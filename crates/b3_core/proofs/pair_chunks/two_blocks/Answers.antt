@@ -13,7 +13,7 @@ inner-preserved c = record {
       let place : of_half p (64 * k) (1024 + 64 * k) ≡ 1024 * p + 64 * k =
       of_half-either p (64 * k) (1024 + 64 * k) (1024 * p + 64 * k) p_in (λ is. omega (arith, is)) (λ is. omega (arith, is)) in
       half-next c.args.mode.now c.args.bytes.now (c.args.first + p) p k _ _ (half_chaining p c.inner.value) _ _ place
-      (omega arith) (omega (arith, place)) (c.inner.invariant.words p p_in before) (c.message_rows-m.ensures.words p p_in)
+      (omega arith) (omega (arith, place)) (c.inner.invariant.words p p_in before) (c.load_pair_rows-m.ensures.words p p_in)
       c.full_chunk_flags.ensures (c.pair_chainings-next.ensures.words p p_in);
 }
 

@@ -16,10 +16,10 @@ returns-clause-bytes c = λ before held.
     let whole : length blocks ≡ 64 * count = length-take-le (64 * count) bytes (omega arith) in
     let empty : length (take self.block_len self.block) ≡ 0 =
     omega (arith, length-take self.block_len self.block, c.requires.empty) in
-    let closed = HasBytes-chained mode c.args.number (chunk_state_of self) before blocks c.chain_blocks-self.result count
-    held empty whole c.chain_blocks-self.ensures.chunk in
+    let closed = HasBytes-chained mode c.args.number (chunk_state_of self) before blocks c.chain_onto.new.h count
+    held empty whole c.chain_onto.ensures.chunk in
     let joined = append_assoc before blocks last
     ∙ ap (λ piece. before ++ piece) (take-piece (64 * count) (length bytes) bytes (omega arith)
     ∙ take_all (length bytes) bytes (omega arith)) in
-    subst (HasBytes mode c.args.number (chunk_state_of c.extend_block.new.self)) joined
-    (c.extend_block.ensures.bytes mode c.args.number (before ++ blocks) closed)
+    subst (HasBytes mode c.args.number (chunk_state_of c.extend_block-2.new.self)) joined
+    (c.extend_block-2.ensures.bytes mode c.args.number (before ++ blocks) closed)

@@ -1,5 +1,6 @@
-use Rattle.std.proofs.Common.{◌≡◌, ◌+◌, ◌-◌, ap, take, ◌∙◌, ◌++◌, length, arith, refl}
-use Rattle.std.proofs.lemmas.Slice.{take-put_mid}
+use Rattle.std.proofs.Common.{◌≡◌, ℕ, ◌+◌, ◌-◌, ap, sym, take, drop, replicate, ◌∙◌, ◌++◌, length, arith, refl}
+use Rattle.std.proofs.lemmas.Slice.{drop-put_mid, take-put_mid}
+use Rattle.std.proofs.lemmas.List.{drop-drop, drop-replicate}
 use borrow.Rule.Slice.PartMut.{put_mid}
 use Rattle.b3_hash.specs.Private.{chunk_state_of}
 use Rattle.b3_hash.proofs.ChunkStates.{HasBytes-append}
@@ -16,3 +17,15 @@ returns-clause-bytes c = λ mode number bytes held.
     HasBytes-append mode number (chunk_state_of self) bytes piece _ held
     (ap (λ ys. take end (put_mid self.block_len (end - self.block_len) self.block ys))
     c.copy_from_slice.ensures.after ∙ placed)
+
+pub invariant_of-self-clause-padding : goal.invariant_of-self-clause-padding
+invariant_of-self-clause-padding c =
+    let self = c.args.self.now in
+    let piece = c.args.piece.now in
+    let count : ℕ = self.block_len + length piece - self.block_len in
+    drop-put_mid self.block_len count self.block c.copy_from_slice.new.self (self.block_len + length piece) (omega arith)
+    (omega (arith, self.block_size, self.block_fits)) (ap length c.copy_from_slice.ensures.after ∙ omega arith)
+    ∙ sym (drop-drop (length piece) self.block_len self.block)
+    ∙ ap (drop (length piece)) self.padding
+    ∙ drop-replicate (length piece) (64 - self.block_len) 0
+    ∙ ap (λ n. replicate n 0) (omega arith)

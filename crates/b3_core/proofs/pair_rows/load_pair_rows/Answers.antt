@@ -5,7 +5,7 @@ use Rattle.b3_core.specs.Lanes.{word_at_offset}
 use Rattle.b3_core.proofs.RowRounds.{picked}
 use Rattle.b3_core.proofs.LaneChunks.{four_by_four-block}
 use Rattle.b3_core.proofs.HalfRows.{arranged-halves, of_half-within}
-use Rattle.b3_core.proofs.pair_rows.message_rows.Goals as goal
+use Rattle.b3_core.proofs.pair_rows.load_pair_rows.Goals as goal
 
 pub returns-clause-words : goal.returns-clause-words
 returns-clause-words c p p_in =
