@@ -5,13 +5,13 @@ use Rattle.std.proofs.lemmas.Bool.{cases_lt, false≢true}
 use Rattle.std.proofs.Math.Seq.{take-append_seam, drop-append_seam}
 use Rattle.b3_core.specs.Nodes.{chaining}
 use Rattle.b3_core.specs.Subtrees.{AreChildren}
-use Rattle.b3_core.specs.Tree.{chunks, parent_node, top}
+use Rattle.b3_core.specs.Tree.{IsLeft, chunks, parent_node, top}
 use Rattle.b3_core.specs.declared.modes.Mode.{Mode}
 use Rattle.b3_core.specs.declared.nodes.Node.{Node}
 use Rattle.b3_core.specs.declared.spans.Span.{Span}
 use Rattle.b3_core.proofs.Siblings.{Kids-from_AreChildren}
 use Rattle.b3_board.specs.Spans.{IsNodeOf, IsRootOf, KnownInput, MayBe, in_memory, part, top_of}
-use Rattle.b3_board.proofs.SpanBytes.{top-part}
+use Rattle.b3_board.proofs.SpanBytes.{top-halves, top-part}
 
 some_or : List ℕ → Option (List ℕ) → List ℕ
 some_or d None = d
@@ -102,6 +102,35 @@ IsNodeOf-joined input mode first a l b r x y kids x_is y_is =
       may_be = may;
       is_top = (λ i. parent_node mode (chaining (left i)) (chaining (right i)))
           ∙ sym (top-part all mode first a l b r kids_all);
+    }
+
+-- the same of bytes in a row that are halved as a tree of their own is, whether or not this is one of the input's
+pub IsNodeOf-halves : (input : KnownInput) (mode : Mode) (first a l b r : ℕ) (x y : Node)
+    → b ≡ a + l → IsLeft (l + r) l → 0 < r → b + r ≤ chunks input.len
+    → IsNodeOf input mode first (record { first = a; count = l }) x
+    → IsNodeOf input mode first (record { first = b; count = r }) y
+    → IsNodeOf input mode first (record { first = a; count = l + r }) (parent_node mode (chaining x) (chaining y))
+IsNodeOf-halves input mode first a l b r x y next is_left some inside x_is y_is =
+    let xs = x_is.bytes in
+    let ys = y_is.bytes in
+    let x_may = x_is.may_be in
+    let y_may = y_is.may_be in
+    let k = 1024 * b in
+    let left_some : 0 < l = omega (arith, is_left.1) in
+    let short : k ≤ input.len = omega (arith, inside, some) in
+    let x_short : k ≤ length xs = omega (arith, x_may.len_is, short) in
+    let all = spliced k xs ys in
+    let may = MayBe-spliced input k xs ys short x_may y_may in
+    let front : part all a l ≡ part xs a l =
+    front_part k a l all xs (omega (arith, next)) (take-spliced k xs ys x_short) in
+    let back : part all b r ≡ part ys b r = ap (take (1024 * r)) (drop-spliced k xs ys x_short) in
+    let left : x ≡ top mode (first + a) (part all a l) = x_is.is_top ∙ ap (top mode (first + a)) (sym front) in
+    let right : y ≡ top mode (first + b) (part all b r) = y_is.is_top ∙ ap (top mode (first + b)) (sym back) in
+    record {
+      bytes = all;
+      may_be = may;
+      is_top = (λ i. parent_node mode (chaining (left i)) (chaining (right i)))
+          ∙ sym (top-halves all mode first a l b r next is_left some (omega (arith, inside, may.len_is)));
     }
 
 -- the root of an input that is told is the top of its bytes

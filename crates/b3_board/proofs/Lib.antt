@@ -38,3 +38,5 @@ pub mod SeatViews
 pub mod Working
 -- Sums over what workers hold, and the chunks of the spans that they claimed.
 pub mod WorkerStates
+-- the first place of a list and those after it, for work that threads share
+pub mod ThreadParts

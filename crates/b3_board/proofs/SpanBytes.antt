@@ -1,12 +1,12 @@
 -- The bytes of a span, and the node of a subtree from those of its two children.
-use Rattle.std.proofs.Common.{◌≡◌, ℕ, suc, ◌+◌, ◌-◌, ◌*◌, ◌^◌, ◌<◌, ◌≤◌, min, List, length, take, drop, arith, sym, ap, ◌∙◌, length-drop}
+use Rattle.std.proofs.Common.{◌≡◌, ℕ, suc, ◌+◌, ◌-◌, ◌*◌, ◌^◌, ◌<◌, ◌≤◌, min, List, length, take, drop, arith, sym, subst, ap, ◌∙◌, length-drop}
 use Rattle.std.proofs.lemmas.List.{length-take, take-take, drop-drop, drop-take}
 use Rattle.b3_core.specs.Nodes.{chaining}
 use Rattle.b3_core.specs.Subtrees.{AreChildren}
-use Rattle.b3_core.specs.Tree.{chunks, parent_node, top}
+use Rattle.b3_core.specs.Tree.{IsLeft, chunks, parent_node, top}
 use Rattle.b3_core.specs.declared.modes.Mode.{Mode}
 use Rattle.b3_core.proofs.Powers.{double}
-use Rattle.b3_core.proofs.Subtrees.{top-joined}
+use Rattle.b3_core.proofs.Subtrees.{top-joined, top-parent}
 use Rattle.b3_board.specs.Spans.{part}
 use Rattle.b3_core.proofs.Siblings.{Kids-from_AreChildren}
 
@@ -46,3 +46,23 @@ top-part input mode first a l b r kids =
     ap (λ (p : ℕ). drop (1024 * p) (part input a (l + r))) e ∙ back_part input a l r b k.next in
     joined
     ∙ (λ i. parent_node mode (chaining (top mode (first + a) (front i))) (chaining (top mode (there i) (back i))))
+
+-- the same of chunks in a row that are halved as a tree of their own is, whether or not this is one of the input's
+pub top-halves : (input : List ℕ) (mode : Mode) (first a l b r : ℕ)
+    → b ≡ a + l → IsLeft (l + r) l → 0 < r → b + r ≤ chunks (length input)
+    → top mode (first + a) (part input a (l + r))
+    ≡ parent_node mode
+    (chaining (top mode (first + a) (part input a l)))
+    (chaining (top mode (first + b) (part input b r)))
+top-halves input mode first a l b r next is_left some inside =
+    let bytes = part input a (l + r) in
+    let len = part-length input a (l + r) in
+    let left_some : 0 < l = omega (arith, is_left.2) in
+    let low : 1024 * (b + r) < length input + 1024 = omega (arith, inside, some, next, left_some) in
+    let more : 1024 < length bytes = omega (arith, len, low, next, some, left_some) in
+    let count : chunks (length bytes) ≡ l + r = omega (arith, len, low, next, some, left_some) in
+    let there : first + a + l ≡ first + b = omega (arith, next) in
+    top-parent mode (first + a) l bytes more (subst (λ (n : ℕ). IsLeft n l) (sym count) is_left)
+    ∙ (λ i. parent_node mode
+    (chaining (top mode (first + a) (front_part input a l r i)))
+    (chaining (top mode (there i) (back_part input a l r b next i))))

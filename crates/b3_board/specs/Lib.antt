@@ -12,3 +12,4 @@ pub mod ClaimRule
 pub mod WorkerRuns
 pub mod SpanHashers
 pub mod WorkerStates
+pub mod Threads

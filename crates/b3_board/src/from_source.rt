@@ -34,8 +34,9 @@ use std::thread::Threads;
 /// deposits them as one of [`hash_parallel`] does.
 ///
 /// Refused by the first of `BadWorkers`, `BadGrain`, `TooLarge` and `TooManySpans` that holds, else by `Memory` where a
-/// growth is. None where some span could not be read whole, or where the buffer is shorter than a span; so a source
-/// that is sure of these bytes gives Some. No more workers run than the buffer has spans for. The root is that of one
+/// growth is. None where some span could not be read whole, or where the buffer is shorter than a span and than 256 KiB;
+/// so a source that is sure of these bytes gives Some. No more workers run than the buffer has spans for, or pieces of
+/// 256 KiB of longer spans: a worker reads these one after the other. The root is that of one
 /// content of `len` bytes, which is the source's where the source tells it. Nothing is swept: a span that no worker
 /// deposited, though none failed to read it, is read by this call and counted for the first worker.
 pub fn hash_source<R: Threads + Wait + Sync, S: Source + Sync, G: Gate + Sync>(
@@ -94,7 +95,7 @@ pub fn hash_source<R: Threads + Wait + Sync, S: Source + Sync, G: Gate + Sync>(
         grain,
         spans,
     };
-    if buffer.len() < plan.max_span_len() {
+    if buffer.len() < plan.piece_len() {
         return Ok(None);
     }
     // The proof of this call picks what is known of the source, its mode and its first chunk for those that `Brand`
@@ -124,7 +125,7 @@ fn hash_source_on<
         (region (S.told plan.now.source.now) plan.now.offset plan.now.len) plan.now.mode plan.now.first
         (S.sure plan.now.source.now (plan.now.offset + plan.now.len)) }
     requires grain { plan.now.grain ≡ L.grain }
-    requires buffer { min (1024 * plan.now.grain) plan.now.len ≤ length buffer.old }
+    requires buffer { min 1024 plan.now.len ≤ length buffer.old }
     requires some { 0 < workers }
     requires few { workers ≤ 64 }
     ensures root { IfOk result (λ found. IfSome found (λ report. IsRootOf L.input L.mode L.first report.root.node)) }

@@ -2,12 +2,12 @@
 
 ghost use Rattle.std.specs.Prelude.{◌≡◌, ℕ, ◌+◌, ◌-◌, ◌*◌, ◌<◌, ◌≤◌, ◌^◌, min, List, [], length, Some, None};
 ghost use Rattle.b3_core.specs.Nodes.{chaining};
-ghost use Rattle.b3_core.specs.Tree.{chunks};
+ghost use Rattle.b3_core.specs.Tree.{IsLeft, chunks};
 ghost use Rattle.b3_core.specs.declared.modes.Mode.{Mode};
 ghost use Rattle.b3_board.specs.Spans.{IsNodeOf, KnownInput, part};
 
 use crate::jobs::Done;
-use b3_core::{Mode, Node, Span, chunks, top};
+use b3_core::{Mode, Node, Span, chunks, parent_node, top};
 use std::marker::{Brand, Model, PhantomData};
 use std::sync::ledger::Ledger;
 
@@ -107,6 +107,28 @@ impl<L: InputLedger> OwnDone<L> {
         let node = top(mode, first + span.first, bytes);
         OwnDone {
             span,
+            node,
+            chaining_value: node.chaining(),
+            of: PhantomData,
+        }
+    }
+
+    // The subtree of which two that are hashed are the halves.
+    pub(crate) fn joined(front: OwnDone<L>, back: OwnDone<L>, mode: &Mode) -> OwnDone<L>
+        requires mode { mode.now ≡ L.mode }
+        requires next { back.span.first ≡ front.span.first + front.span.count }
+        requires halves { IsLeft (front.span.count + back.span.count) front.span.count }
+        requires inside { back.span.first + back.span.count ≤ chunks L.input.len }
+        requires some { 0 < back.span.count }
+        requires numbers { L.first + chunks L.input.len ≤ 2 ^ 54 }
+        ensures { result.span ≡ record { first = front.span.first; count = front.span.count + back.span.count } }
+    {
+        let node = parent_node(mode, &front.chaining_value, &back.chaining_value);
+        OwnDone {
+            span: Span {
+                first: front.span.first,
+                count: front.span.count + back.span.count,
+            },
             node,
             chaining_value: node.chaining(),
             of: PhantomData,

@@ -18,11 +18,11 @@ use crate::report::Report;
 use crate::root::Root;
 use crate::share::Share;
 use crate::span_hasher::SpanHasher;
+use crate::threads::for_each_beside;
 use crate::worker_state::{JoinedWorkers, WorkerState, join_workers, scatter, thread_count};
 use crate::workers::work;
 use std::alloc::Global;
 use std::sync::{Mutex, Wait};
-use std::thread;
 use std::thread::Threads;
 
 // Runs the workers over a board with all spans open and its whole share. What none of them deposited, though none gave
@@ -130,11 +130,9 @@ fn run_each<
     ensures seat_parts { sum_by seat_parts states.new ≡ sum_by seat_parts states.old }
     ensures share_parts { sum_by share_parts states.new ≡ sum_by share_parts states.old }
 {
-    let count = states.len();
-    thread::for_each_mut(
+    for_each_beside(
         rt,
         states,
-        count,
         &|number, state: &mut WorkerState<'_, L>|
             requires { C.is_own hasher.now
                 × (claims.now.count ≡ length (C.spans hasher.now))

@@ -11,9 +11,12 @@ use crate::backing::{InSource, SourceLedger, Unread};
 use crate::input_ledger::OwnDone;
 use crate::source::Source;
 use crate::span_hasher::SpanHasher;
-use b3_core::{Mode, Span};
+use b3_core::{Mode, Span, left};
 
 const CHUNK_LEN: u64 = b3_core::CHUNK_LEN as u64;
+
+/// How many bytes a worker reads at a time where its buffer takes no more: they stay in its core's cache.
+pub const PIECE_LEN: usize = 1 << 18;
 
 // So many bytes of a source from an offset on, with a mode, the number of their first chunk, and their cutting into
 // spans of no more than `grain` chunks.
@@ -37,11 +40,19 @@ pub(crate) struct SourcePlan<'s, S: Source> {
 }
 
 impl<'s, S: Source> SourcePlan<'s, S> {
-    // What the buffer for any of the spans takes.
-    pub(crate) fn max_span_len(&self) -> usize
-        ensures { result ≡ min (1024 * self.now.grain) self.now.len }
+    // What the buffer of a worker takes: a span, or a piece of a longer one.
+    pub(crate) fn piece_len(&self) -> usize
+        ensures whole_span { result ≤ min (1024 * self.now.grain) self.now.len }
+        ensures chunk { 0 < self.now.grain → min 1024 self.now.len ≤ result }
     {
-        (CHUNK_LEN * self.grain).min(self.len) as usize
+        (CHUNK_LEN * self.grain).min(self.len).min(PIECE_LEN as u64) as usize
+    }
+
+    // What the least of buffers takes.
+    fn chunk_len(&self) -> usize
+        ensures { result ≡ min 1024 self.now.len }
+    {
+        CHUNK_LEN.min(self.len) as usize
     }
 
     // The number of bytes in a span.
@@ -54,8 +65,45 @@ impl<'s, S: Source> SourcePlan<'s, S> {
         (CHUNK_LEN * span.count).min(self.len - start) as usize
     }
 
-    // Reads a span into the buffer, and hashes it there.
+    // Reads a span into the buffer, and hashes it there: a span that the buffer is too short for in two halves, one after
+    // the other.
     pub(crate) fn read<L: SourceLedger>(
+        &self,
+        span: Span,
+        buffer: &mut [u8],
+    ) -> Result<OwnDone<L>, Unread<InSource<L>>>
+        requires own { IsSameInput L.input L.mode L.first L.sure
+            (region (S.told self.now.source.now) self.now.offset self.now.len) self.now.mode self.now.first
+            (S.sure self.now.source.now (self.now.offset + self.now.len)) }
+        requires inside { span.first + span.count ≤ chunks self.now.len }
+        requires some { 0 < span.count }
+        requires buffer { min 1024 self.now.len ≤ length buffer.old }
+        ensures span { span_of result ≡ span }
+        ensures sure { L.sure → IsOk result }
+    {
+        if self.span_len(span) <= buffer.len() {
+            return self.read_at_once(span, buffer);
+        }
+        let count = left(span.count);
+        let front = Span {
+            first: span.first,
+            count,
+        };
+        let back = Span {
+            first: span.first + count,
+            count: span.count - count,
+        };
+        let Ok(front) = self.read::<L>(front, buffer) else {
+            return Err(Unread::new(span));
+        };
+        let Ok(back) = self.read::<L>(back, buffer) else {
+            return Err(Unread::new(span));
+        };
+        Ok(OwnDone::joined(front, back, &self.mode))
+    }
+
+    // The same of a span that the buffer takes.
+    fn read_at_once<L: SourceLedger>(
         &self,
         span: Span,
         buffer: &mut [u8],
@@ -68,6 +116,7 @@ impl<'s, S: Source> SourcePlan<'s, S> {
         requires buffer { min (1024 * span.count) (self.now.len - 1024 * span.first) ≤ length buffer.old }
         ensures span { span_of result ≡ span }
         ensures sure { L.sure → IsOk result }
+        ensures len { length buffer.new ≡ length buffer.old }
     {
         let start = CHUNK_LEN * span.first;
         let len = self.span_len(span);
@@ -89,14 +138,14 @@ impl<'s, S: Source, L: SourceLedger> SpanHasher<InSource<L>, L> for SourcePlan<'
         (region (S.told plan.source.now) plan.offset plan.len) plan.mode plan.first
         (S.sure plan.source.now (plan.offset + plan.len)) };
 
-    ghost serves = { λ plan buffer. (plan.grain ≡ L.grain) × (min (1024 * plan.grain) plan.len ≤ buffer) };
+    ghost serves = { λ plan buffer. min 1024 plan.len ≤ buffer };
 
     fn cutting(&self) -> &[Span] {
         self.spans.as_slice()
     }
 
     fn buffer_len(&self) -> usize {
-        self.max_span_len()
+        self.piece_len()
     }
 
     fn hash(
@@ -104,7 +153,7 @@ impl<'s, S: Source, L: SourceLedger> SpanHasher<InSource<L>, L> for SourcePlan<'
         span: Span,
         buffer: &mut [u8],
     ) -> Option<Result<OwnDone<L>, Unread<InSource<L>>>> {
-        if buffer.len() < self.span_len(span) {
+        if buffer.len() < self.chunk_len() {
             return None;
         }
         Some(self.read(span, buffer))

@@ -12,26 +12,23 @@ use crate::buffer::Buffer;
 use crate::options::Limits;
 use crate::pool::Pool;
 use crate::shelf::Shelf;
-use b3_board::{Gate, Source, default_grain, hash_source};
+use b3_board::{Gate, PIECE_LEN, Source, default_grain, hash_source};
 use b3_core::{CHUNK_LEN, Mode, Node, chunks};
 use b3_hash::{Hasher, Xof};
 use std::sync::Wait;
 use std::thread::Threads;
 
-/// How many chunks a piece has. A worker reads one at a time, into a buffer that stays in its core's cache.
-const PIECE_CHUNKS: u64 = 256;
+/// How many chunks a piece has, which is what a worker reads at a time.
+const PIECE_CHUNKS: u64 = (PIECE_LEN / CHUNK_LEN) as u64;
 
-/// How many bytes a piece has.
-pub const PIECE_LEN: usize = 1 << 18;
-
-/// The spans of a file are pieces from where each worker gets so many.
+/// Spans are pieces or longer from where each worker gets so many pieces.
 const PIECES_PER_WORKER: u64 = 4;
 
-/// A region has 2^REGION_LEVEL chunks, as many as a board of pieces takes.
-pub const REGION_LEVEL: u32 = 18;
+/// A region has 2^REGION_LEVEL chunks, as many as a board takes: the workers start once for each.
+pub const REGION_LEVEL: u32 = 20;
 
 /// How many bytes a region has.
-pub const REGION_LEN: u64 = 1 << 28;
+pub const REGION_LEN: u64 = 1 << 30;
 
 /// A file that is read at offsets has fewer bytes.
 pub const LEN_LIMIT: u64 = 1 << 50;
@@ -76,22 +73,23 @@ pub fn hash_at_offsets<R: Threads + Wait + Sync, G: Gate + Sync, S: Shelf + Send
     }
     // Two start for a short file; a further one is worth its start where there is a piece for it.
     let threads = workers.min((len / PIECE_LEN as u64).max(2) as usize);
-    let Ok(front) = buffer.front(threads * span_len as usize) else {
+    let Ok(front) = buffer.front(threads * PIECE_LEN.min(span_len as usize)) else {
         return None;
     };
     hash_regions(pool, shelf, mode, grain, len, front)
 }
 
-// How many chunks the spans of a file of so many bytes have: those of a piece, or fewer where not each worker would get
-// several of these.
+// How many chunks the spans of a file of so many bytes have: as few as a board over a region takes, but those of a piece
+// where each worker gets several of these.
 fn grain_of(len: u64, workers: usize) -> u64
     requires { workers ≤ 64 }
     ensures { (0 < result) × (result ≤ 2 ^ 20) }
 {
+    let grain = default_grain(chunks(len.min(REGION_LEN)));
     if len / PIECE_LEN as u64 >= workers as u64 * PIECES_PER_WORKER {
-        return PIECE_CHUNKS;
+        return grain.max(PIECE_CHUNKS);
     }
-    default_grain(chunks(len))
+    grain
 }
 
 // Whether just so many bytes are left of the file: from the last of them on, one can be read.

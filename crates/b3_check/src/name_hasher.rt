@@ -7,12 +7,12 @@ ghost use Rattle.b3_check.specs.Tasks.{IsFit};
 ghost use Rattle.b3_check.specs.declared.output_range.OutputRange.{OutputRange};
 ghost use Rattle.b3_check.specs.declared.items.Item.{Item};
 
-use crate::at_offsets::PIECE_LEN;
 use crate::items::{Item, Request};
 use crate::message::Message;
 use crate::output_range::OutputRange;
 use crate::prefetch::Queued;
 use crate::shelf::Shelf;
+use b3_board::PIECE_LEN;
 use b3_core::Mode;
 use b3_hash::{Hasher, Xof};
 use std::alloc::{AllocError, Global};

@@ -14,12 +14,11 @@ use crate::options::Limits;
 use crate::output_range::OutputRange;
 use crate::pool::Pool;
 use crate::shelf::Shelf;
-use b3_board::{Gate, MAX_WORKERS};
+use b3_board::{Gate, MAX_WORKERS, for_each_beside};
 use std::alloc::{AllocError, Global};
 use std::collections::VecDeque;
 use std::sync::Wait;
 use std::sync::atomic::{AtomicU64, AtomicUsize, Ordering};
-use std::thread;
 use std::thread::Threads;
 
 /// How many items the first round takes: one for each of the most workers, and no more, so that the first line is
@@ -217,11 +216,9 @@ fn hash_concurrently<R: Threads + Wait + Sync, G: Gate + Sync, S: Shelf + Sync>(
 {
     let taken = AtomicUsize::new(0);
     let done = AtomicU64::new(0);
-    let threads = name_hashers.len();
-    thread::for_each_mut(
+    for_each_beside(
         pool.rt,
         name_hashers,
-        threads,
         &|_, name_hasher: &mut NameHasher|
             requires { (range.now.seek + range.now.length ≤ 2 ^ 64 - 1)
                 × All (IsRight (S.told shelf.now) range.now) queue.now.items }

@@ -6,7 +6,7 @@ use super::memory::last_growth;
 use super::pattern;
 use super::rendezvous::{AllAtOnce, Rendezvous, Yielding};
 use super::workers::assert_report;
-use b3_board::{BoardFault, Gate, OpenGate, Report, Source, hash_source};
+use b3_board::{BoardFault, Gate, OpenGate, PIECE_LEN, Report, Source, hash_source};
 use b3_core::{CHUNK_LEN, Mode, chunks};
 use std::alloc::Global;
 use std::process::Abort;
@@ -389,5 +389,74 @@ fn refused_memory_of_a_source(rt: HostRuntime) -> Result<(), Fail> {
         last_growth(rt.alloc()).is_ok(),
         "refused after the last call"
     );
+    Ok(())
+}
+
+const MEBIBYTE: usize = 1 << 20;
+
+// Reads so many bytes in spans of a mebibyte, of which a worker's part of the buffer takes a quarter: no more workers run
+// than there are spans.
+fn read_in_pieces<R: Threads + Wait + Abort + Sync>(
+    rt: &R,
+    alloc: Global,
+    source: &Silent,
+    len: usize,
+    workers: u32,
+) -> Result<Option<Report>, Fail> {
+    let parts = len.div_ceil(MEBIBYTE).min(workers as usize);
+    let mut buffer = vec![in alloc; 0u8; PIECE_LEN.saturating_mul(parts)]?;
+    let len = len as u64;
+    let found = hash_part(
+        rt,
+        alloc,
+        source,
+        0,
+        len,
+        1024,
+        workers,
+        &mut buffer,
+        &OpenGate,
+    )?;
+    Ok(found)
+}
+
+// The last span has a chunk, a piece, a piece and a byte, or a piece and two chunks.
+#[test]
+fn spans_of_several_pieces(rt: HostRuntime) -> Result<(), Fail> {
+    let input = pattern(rt.alloc(), 2 * MEBIBYTE + PIECE_LEN + 1025)?;
+    for (len, spans, reads) in [
+        (MEBIBYTE - 1, 1, 4),
+        (MEBIBYTE, 1, 4),
+        (MEBIBYTE + 1, 2, 5),
+        (MEBIBYTE + PIECE_LEN, 2, 5),
+        (MEBIBYTE + PIECE_LEN + 1, 2, 6),
+        (2 * MEBIBYTE + PIECE_LEN + 1025, 3, 10u64),
+    ] {
+        for workers in [1u32, 2, 4] {
+            let part = input.get(..len).expect(&rt, "a part");
+            let source = Silent::good(part, 0);
+            let found = read_in_pieces(&rt, rt.alloc(), &source, len, workers)?;
+            let report = found.expect(&rt, "a root");
+            assert_report(&rt, &report, part, 0, spans, workers);
+            assert_eq!(&rt; source.reads.load(Ordering::SeqCst), reads, "{len} bytes");
+        }
+    }
+    Ok(())
+}
+
+// One of six pieces is refused or short, whichever of its span it is.
+#[test]
+fn each_piece_fails(rt: HostRuntime) -> Result<(), Fail> {
+    let len = MEBIBYTE + PIECE_LEN + 1;
+    let input = pattern(rt.alloc(), len)?;
+    for how in [Bad::Refused, Bad::Short] {
+        for bad in 0..7u64 {
+            for workers in [1u32, 3] {
+                let source = Silent::new(input.as_slice(), bad, how);
+                let found = read_in_pieces(&rt, rt.alloc(), &source, len, workers)?;
+                assert_eq!(&rt; found.is_some(), bad == 6, "read {bad}");
+            }
+        }
+    }
     Ok(())
 }

@@ -2,7 +2,7 @@ use Rattle.std.proofs.Common.{◌≡◌, ℕ, ◌+◌, ◌-◌, ◌*◌, ◌≤�
 use Rattle.std.proofs.lemmas.List.{length-take-le, take_all}
 use Rattle.b3_board.specs.Spans.{KnownInput}
 use Rattle.b3_board.proofs.RegionBytes.{region_part}
-use Rattle.b3_board.proofs.source_plan.SourcePlan.read.Goals as goal
+use Rattle.b3_board.proofs.source_plan.SourcePlan.read_at_once.Goals as goal
 
 pub of_bytes-requires-clause-told : goal.of_bytes-requires-clause-told
 of_bytes-requires-clause-told g c =
