@@ -4,14 +4,21 @@ ghost use Rattle.std.specs.Prelude.{◌≡◌, ◌+◌, ◌<◌, ◌≤◌, true
 ghost use Rattle.b3_check.specs.Contents.{Gives};
 ghost use Rattle.b3_program.specs.Sources.{file_rest, input_rest};
 
-use crate::disk::{DiskFile, Input};
-use crate::retrying::{fill, fill_at, read_at_retrying, read_retrying};
-use std::sync::atomic::{AtomicBool, Ordering};
+use crate::disk::{DiskFile, Input, Stream};
+use crate::retrying::{fill_at, read_at_retrying, read_retrying};
+use std::sync::atomic::{AtomicBool, AtomicU64, Ordering};
+
+// The position moves through so many bytes of a buffer, which stay in the inner cache of a core.
+const FRONT_LEN: usize = 1 << 16;
+
+// Where so many bytes are due, a call moves the position for itself: the one that moves it may wait for a processor.
+const MOST_DUE: u64 = 1 << 20;
 
 /// The plain file that an input is, opened anew, and the input.
 ///
 /// The input tells none of its bytes at an offset, so these are the file's. Its position moves by reads alone, so
-/// it is read as far as the file is.
+/// it is read as far as the file is. The system lets in one such read at a time: so that calls do not wait for one
+/// another, one of them reads for all.
 #[derive(Drop)]
 pub struct InputFile<I, P> {
     pub input: I,
@@ -20,6 +27,8 @@ pub struct InputFile<I, P> {
     pub start: u64,
     // whether some of it was read at an offset, so that the input stands elsewhere
     pub is_ahead: AtomicBool,
+    // how many bytes the position is still to move; while it is not 0, a call moves it
+    pub due: AtomicU64,
     // whether the input gave all that was read in order
     pub is_in_step: bool,
 }
@@ -37,6 +46,7 @@ impl<I: Input<File = P>, P: DiskFile> InputFile<I, P> {
             file,
             start,
             is_ahead: AtomicBool::new(false),
+            due: AtomicU64::new(0),
             is_in_step: true,
         }
     }
@@ -57,10 +67,46 @@ impl<I: Input<File = P>, P: DiskFile> InputFile<I, P> {
         ensures bytes { IsTrue P.tells → IfSome result (λ n.
             take n buffer.new ≡ take (length buffer.old) (file_rest P.content self.now offset)) }
     {
+        if buffer.is_empty() {
+            return Some(0);
+        }
         self.is_ahead.store(true, Ordering::SeqCst);
-        let mut input = self.input;
-        fill(&mut input, buffer)?;
-        fill_at(&self.file, self.start.checked_add(offset)?, buffer)
+        let start = self.start.checked_add(offset)?;
+        let len = buffer.len();
+        let seam = len.min(FRONT_LEN);
+        let (front, back) = buffer.split_at_mut(seam);
+        // The position moves through pages that this or another call has just read.
+        let in_back = fill_at(&self.file, start.checked_add(seam as u64)?, back)?;
+        self.move_on(len as u64, front)?;
+        let in_front = fill_at(&self.file, start, front)?;
+        if in_front < seam {
+            return Some(in_front);
+        }
+        Some(seam + in_back)
+    }
+
+    // Moves the position on by so many bytes, at least one, or leaves them to the call that moves it. Nothing where a
+    // read fails.
+    fn move_on(&self, count: u64, buffer: &mut [u8]) -> Option<()>
+        requires buffer { 0 < length buffer.old }
+        ensures len { length buffer.new ≡ length buffer.old }
+    {
+        if self.due.load(Ordering::SeqCst) >= MOST_DUE {
+            return pass_over(self.input, count, buffer);
+        }
+        if self.due.fetch_add(count, Ordering::SeqCst) > 0 {
+            return Some(());
+        }
+        let mut left = count;
+        for _round in 0..u64::MAX {
+            pass_over(self.input, left, buffer)?;
+            let due = self.due.fetch_sub(left, Ordering::SeqCst);
+            if due <= left {
+                return Some(());
+            }
+            left = due - left;
+        }
+        None
     }
 
     /// The next bytes, where so many were given.
@@ -85,4 +131,22 @@ impl<I: Input<File = P>, P: DiskFile> InputFile<I, P> {
         self.is_in_step = false;
         read_at_retrying(&self.file, self.start.checked_add(consumed)?, buffer).ok()
     }
+}
+
+// Reads so many bytes, or all that are left, through a buffer.
+fn pass_over<S: Stream + Copy>(stream: S, count: u64, buffer: &mut [u8]) -> Option<()>
+    requires buffer { 0 < length buffer.old }
+    ensures len { length buffer.new ≡ length buffer.old }
+{
+    let mut stream = stream;
+    let mut left = count;
+    while left > 0 {
+        let most = left.min(buffer.len() as u64) as usize;
+        let passed = read_retrying(&mut stream, &mut buffer[..most]).ok()?;
+        if passed == 0 {
+            return Some(());
+        }
+        left -= passed as u64;
+    }
+    Some(())
 }

@@ -6,6 +6,7 @@ mod in_memory;
 mod inputs;
 mod orders;
 mod outputs;
+mod positions;
 mod progress;
 mod real_disk;
 mod steps;

@@ -1,0 +1,287 @@
+// Where standard input stands after its plain file was read at offsets.
+
+ghost use Rattle.std.specs.Prelude.{◌<◌};
+
+use super::files::counted;
+use b3_check::Shelf;
+use b3_program::{FileShelf, Input, MemoryDisk, MemoryFile, Stream};
+use std::alloc::{AllocError, Global};
+use std::io::{self, ErrorKind};
+use std::process::Abort;
+use std::sync::atomic::{AtomicBool, AtomicU64, Ordering};
+use std::test::Fail;
+use std::thread::{Threads, for_each_mut};
+
+/// What befell an input.
+#[derive(Drop)]
+struct Moves {
+    // how many bytes were read
+    position: AtomicU64,
+    calls: AtomicU64,
+    // how many reads are let through before one that fails
+    before_fault: u64,
+    // whether the first read is held until it is let go
+    is_held: AtomicBool,
+    // how far the position had moved when it was let go
+    position_then: AtomicU64,
+}
+
+impl Moves {
+    fn failing_after(before_fault: u64) -> Moves {
+        Moves {
+            position: AtomicU64::new(0),
+            calls: AtomicU64::new(0),
+            before_fault,
+            is_held: AtomicBool::new(false),
+            position_then: AtomicU64::new(0),
+        }
+    }
+
+    fn plain() -> Moves {
+        Moves::failing_after(u64::MAX)
+    }
+
+    fn holding() -> Moves {
+        Moves {
+            is_held: AtomicBool::new(true),
+            ..Moves::plain()
+        }
+    }
+
+    // Waits until the first read is let go, though not for ever.
+    fn hold(&self) {
+        for _turn in 0..1u64 << 32 {
+            if !self.is_held.load(Ordering::SeqCst) {
+                return;
+            }
+        }
+    }
+
+    // Waits until the first read is held, though not for ever.
+    fn await_first(&self) {
+        for _turn in 0..1u64 << 32 {
+            if self.calls.load(Ordering::SeqCst) > 0 {
+                return;
+            }
+        }
+    }
+
+    fn let_go(&self) {
+        let position = self.position.load(Ordering::SeqCst);
+        self.position_then.store(position, Ordering::SeqCst);
+        self.is_held.store(false, Ordering::SeqCst);
+    }
+}
+
+/// An input that is this file, and which gives other bytes and does not end: so a byte that is read of it twice counts
+/// twice.
+#[derive(Clone, Copy)]
+struct Endless<'a> {
+    file: &'a [u8],
+    moves: &'a Moves,
+}
+
+impl Stream for Endless<'_> {
+    ghost use Rattle.std.specs.Prelude.{false, []};
+
+    ghost tells = { false };
+
+    ghost content = { λ _. [] };
+
+    ghost position = { λ _. 0 };
+
+    fn read(&mut self, buffer: &mut [u8]) -> io::Result<usize> {
+        let call = self.moves.calls.fetch_add(1, Ordering::SeqCst);
+        if call == self.moves.before_fault {
+            return Err(io::Error::from(ErrorKind::Other));
+        }
+        if call == 0 {
+            self.moves.hold();
+        }
+        buffer.fill(0xff);
+        let count = buffer.len();
+        self.moves
+            .position
+            .fetch_add(count as u64, Ordering::SeqCst);
+        Ok(count)
+    }
+}
+
+impl<'a> Input for Endless<'a> {
+    type File = MemoryFile<'a>;
+
+    fn reopen(&self) -> Option<(MemoryFile<'a>, u64)> {
+        Some((MemoryFile::new(self.file), 0))
+    }
+}
+
+// How long a file is, and lengths of reads of it: of a few bytes, of more than the position moves by in one read, and of
+// more than the file has.
+const LEN: u64 = 250_000;
+
+const LENS: [usize; 7] = [2, 65_535, 65_536, 65_537, 0, 200_000, 300_000];
+
+// The file's bytes from this offset on are read, as far as there are some.
+fn assert_filled<S: Shelf>(
+    rt: &impl Abort,
+    alloc: Global,
+    shelf: &S,
+    content: &[u8],
+    offset: usize,
+    len: usize,
+) -> Result<(), AllocError> {
+    let rest = &content[offset.min(content.len())..];
+    let wanted = &rest[..len.min(rest.len())];
+    let mut buffer = Vec::new(alloc);
+    buffer.resize(len, 0xfe)?;
+    let given = shelf.read_at(offset as u64, buffer.as_mut_slice());
+    assert_eq!(rt; given, Some(wanted.len()), "{len} bytes at {offset}");
+    assert!(rt;
+        buffer.as_slice().starts_with(wanted),
+        "{len} bytes at {offset}"
+    );
+    Ok(())
+}
+
+#[test]
+fn each_read_moves_the_position_by_its_length(rt: HostRuntime) -> Result<(), Fail> {
+    let content = counted(rt.alloc(), LEN)?;
+    for offset in [0, 1, 49_999, 184_463, 184_464, 184_465, 250_000] {
+        let moves = Moves::plain();
+        let file = content.as_slice();
+        let mut shelf = FileShelf::new(
+            MemoryDisk::new(&[]),
+            Endless {
+                file,
+                moves: &moves,
+            },
+        );
+        assert!(rt; shelf.begin("-").is_ok());
+        let mut due = 0u64;
+        for len in LENS {
+            assert_filled(&rt, rt.alloc(), &shelf, file, offset, len)?;
+            due = due.wrapping_add(len as u64);
+            assert_eq!(rt; moves.position.load(Ordering::SeqCst), due);
+        }
+    }
+    Ok(())
+}
+
+// What a read at an offset gives, and how many reads of the input there were, where one of them fails after so many.
+fn read_failing_after<R: Abort>(
+    rt: &R,
+    alloc: Global,
+    file: &[u8],
+    before_fault: u64,
+) -> Result<(Option<usize>, u64), AllocError> {
+    let moves = Moves::failing_after(before_fault);
+    let mut shelf = FileShelf::new(
+        MemoryDisk::new(&[]),
+        Endless {
+            file,
+            moves: &moves,
+        },
+    );
+    assert!(rt; shelf.begin("-").is_ok());
+    let mut buffer = Vec::new(alloc);
+    buffer.resize(200_000, 0)?;
+    let given = shelf.read_at(0, buffer.as_mut_slice());
+    Ok((given, moves.calls.load(Ordering::SeqCst)))
+}
+
+#[test]
+fn each_read_that_moves_the_position_fails(rt: HostRuntime) -> Result<(), Fail> {
+    let content = counted(rt.alloc(), LEN)?;
+    let (given, calls) = read_failing_after(&rt, rt.alloc(), content.as_slice(), u64::MAX)?;
+    assert!(rt; given == Some(200_000) && 1 <= calls && calls < 1_000);
+    for before_fault in 0..calls {
+        let (given, _calls) = read_failing_after(
+            &rt,
+            rt.alloc(),
+            content.as_slice(),
+            before_fault,
+        )?;
+        assert_eq!(rt; given, None);
+    }
+    Ok(())
+}
+
+// How many bytes each of many workers reads, at an offset of its own.
+const PART_LEN: usize = 70_000;
+
+// How many there are, and how many of them one of two threads reads.
+const PARTS: usize = 40;
+
+// Reads the parts of a file by so many threads. Where the first read of the input is held, the second half of the parts
+// is read then.
+fn read_parts<R: Threads + Abort + Sync>(
+    rt: &R,
+    alloc: Global,
+    content: &[u8],
+    threads: usize,
+    moves: &Moves,
+) -> Result<(), AllocError>
+    requires { 0 < threads }
+{
+    let input = Endless {
+        file: content,
+        moves,
+    };
+    let mut shelf = FileShelf::new(MemoryDisk::new(&[]), input);
+    assert!(rt; shelf.begin("-").is_ok());
+    let mut parts = Vec::new(alloc);
+    for _part in 0..PARTS {
+        parts.push(vec![in alloc; 0u8; PART_LEN]?)?;
+    }
+    let is_held = moves.is_held.load(Ordering::SeqCst);
+    for_each_mut(
+        rt,
+        parts.as_mut_slice(),
+        threads,
+        &|place, part: &mut Vec<u8>| {
+            if is_held && place == PARTS / 2 {
+                moves.await_first();
+            }
+            let offset = (place as u64).wrapping_mul(PART_LEN as u64);
+            let _given = shelf.read_at(offset, part.as_mut_slice());
+            if is_held && place == PARTS - 1 {
+                moves.let_go();
+            }
+        },
+    );
+    for (part, wanted) in parts.iter().zip(content.chunks(PART_LEN)) {
+        assert!(rt; part.as_slice() == wanted, "by {threads} threads");
+    }
+    Ok(())
+}
+
+// Each part is moved once, whoever moves it, and nothing is due when all have ended.
+#[test]
+fn many_threads_move_the_position_by_all_that_they_read(rt: HostRuntime) -> Result<(), Fail> {
+    let content = counted(rt.alloc(), (PARTS * PART_LEN) as u64)?;
+    for threads in [1, 2, 4, 8] {
+        let moves = Moves::plain();
+        read_parts(&rt, rt.alloc(), content.as_slice(), threads, &moves)?;
+        let position = moves.position.load(Ordering::SeqCst);
+        assert_eq!(rt; position, (PARTS * PART_LEN) as u64, "by {threads} threads");
+    }
+    Ok(())
+}
+
+// While a read of the input takes long, calls leave what they read to it, and later ones move the position themselves.
+#[test]
+fn no_call_waits_for_the_one_that_moves_the_position(rt: HostRuntime) -> Result<(), Fail> {
+    let content = counted(rt.alloc(), (PARTS * PART_LEN) as u64)?;
+    let moves = Moves::holding();
+    read_parts(&rt, rt.alloc(), content.as_slice(), 2, &moves)?;
+    assert!(rt; !moves.is_held.load(Ordering::SeqCst));
+    let position_then = moves.position_then.load(Ordering::SeqCst);
+    let half = (PARTS / 2 * PART_LEN) as u64;
+    assert!(rt;
+        0 < position_then && position_then < half,
+        "{position_then}"
+    );
+    let position = moves.position.load(Ordering::SeqCst);
+    assert_eq!(rt; position, (PARTS * PART_LEN) as u64);
+    Ok(())
+}
