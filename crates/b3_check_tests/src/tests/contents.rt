@@ -6,7 +6,7 @@ use std::test::Fail;
 /// The check lines of contents whose bytes are 0 to 250, over and over, as many as the name says. They are those of
 /// other implementations. The lengths lie around none, a chunk, one to three spans of 16 KiB, one and two reads, one to
 /// four pieces of 256 KiB, and 2^24; the others have spans that tests count.
-pub const LINES: [&str; 41] = [
+const LINES: [&str; 41] = [
     "af1349b9f5f9a1a6a0404dea36dcc9499bcb25c9adc112b7cc9a93cae41f3262  g0",
     "2d3adedff11b61f14c886e35afa036736dcd87a74d27b5c1510225d0f592e213  g1",
     "10108970eeda3eb932baac1428c7a2163b0e924c9a9e25b35bba72b28f70bd11  g1023",
@@ -50,15 +50,24 @@ pub const LINES: [&str; 41] = [
     "b13f9146887dacfa1117bc94bb06ad3c645c7b10b522aa7ec651c425dc10dbb2  g50331648",
 ];
 
-/// More than a region of 2^28 bytes, by one byte.
-pub const REGION_AND_A_BYTE: &str =
+/// These lines. No caller has them all among the facts from which it is proved.
+pub fn lines() -> &'static [&'static str] {
+    &LINES
+}
+
+/// More than 2^28 bytes, by one byte: the spans are two pieces, and the last of them is a byte.
+pub const LONG_SPANS_AND_A_BYTE: &str =
     "7e30cd0b28af6e9394b8a43254e477a3eafc1b8d1e9193424c1c781d05c6b009  g268435457";
+
+/// More than a region of 2^30 bytes, by one byte.
+pub const REGION_AND_A_BYTE: &str =
+    "88123cac922eb9aaabf114195d2a90a6cae336a738c8cfc29e4f750dda58045b  g1073741825";
 
 /// The line of a name that is among these.
 pub fn line_of(name: &str) -> &'static str {
-    for line in LINES {
+    for line in lines() {
         if line.ends_with(name) {
-            return line;
+            return *line;
         }
     }
     ""

@@ -101,6 +101,12 @@ impl<'a> PatientSink<'a> {
             failures: 0,
         }
     }
+
+    // It has just this text, by so many writes.
+    fn assert(&self, rt: &impl Abort, text: &str, writes: u64) {
+        assert_eq!(rt; self.bytes.as_slice(), text.as_bytes());
+        assert_eq!(rt; self.writes, writes);
+    }
 }
 
 impl Sink for PatientSink<'_> {
@@ -122,15 +128,6 @@ impl Sink for PatientSink<'_> {
     fn may_wait(&self) -> bool {
         self.may_wait
     }
-}
-
-// So many times this text.
-fn repeated(alloc: Global, count: u64, text: &str) -> Result<String, Fail> {
-    let mut texts = String::new(alloc);
-    for _ in 0..count {
-        texts.push_str(text)?;
-    }
-    Ok(texts)
 }
 
 // So many names `a`.
@@ -159,6 +156,62 @@ fn summed<R: Abort + Threads + Wait + Sync>(
     sum_into(rt, alloc, shelf, names, out, err, &asked)
 }
 
+// The check of lists, likewise.
+fn checked<R: Abort + Threads + Wait + Sync>(
+    rt: &R,
+    alloc: Global,
+    lists: &[String],
+    shelf: &mut EmptyFiles<'_>,
+    out: &mut PatientSink<'_>,
+    err: &mut PatientSink<'_>,
+) -> Result<Tally, RunFault>
+    requires out { out.old.failures < 2 ^ 63 }
+    requires err { err.old.failures < 2 ^ 63 }
+{
+    let mut asked = check_options(false, 100_000);
+    asked.workers = 2;
+    check_into(rt, alloc, shelf, lists, out, err, &asked)
+}
+
+// The lines of 1,000 names go in so many writes.
+fn assert_sum_writes<R: Abort + Threads + Wait + Sync>(
+    rt: &R,
+    alloc: Global,
+    names: &[String],
+    lines: &str,
+    may_wait: bool,
+    writes: u64,
+) {
+    let written = AtomicU64::new(0);
+    let mut shelf = EmptyFiles::new(lines.as_bytes(), &written);
+    let mut out = PatientSink::new(alloc, may_wait, &written);
+    let mut err = PatientSink::new(alloc, may_wait, &written);
+    let answer = summed(rt, alloc, names, &mut shelf, &mut out, &mut err);
+    assert_eq!(rt; answer, Ok(tally(1_000, 0, 0)));
+    out.assert(rt, lines, writes);
+}
+
+// The verdicts on these lines go in so many writes.
+fn assert_check_writes<R: Abort + Threads + Wait + Sync>(
+    rt: &R,
+    alloc: Global,
+    lists: &[String],
+    lines: &str,
+    may_wait: bool,
+    writes: u64,
+) -> Result<(), Fail> {
+    let verdicts = "a: OK\n".repeat(alloc, 1_000)?;
+    let written = AtomicU64::new(0);
+    let mut shelf = EmptyFiles::new(lines.as_bytes(), &written);
+    let mut out = PatientSink::new(alloc, may_wait, &written);
+    let mut err = PatientSink::new(alloc, may_wait, &written);
+    let answer = checked(rt, alloc, lists, &mut shelf, &mut out, &mut err);
+    assert_eq!(rt; answer, Ok(tally(1_000, 0, 0)));
+    out.assert(rt, verdicts.as_str(), writes);
+    err.assert(rt, "", 0);
+    Ok(())
+}
+
 // The lines of 1,000 names go in as many writes as there are rounds, of 64, 128, 256, 512 names and the rest; or each
 // in a write of its own.
 fn assert_writes<R: Abort + Threads + Wait + Sync>(
@@ -168,29 +221,11 @@ fn assert_writes<R: Abort + Threads + Wait + Sync>(
     writes: u64,
 ) -> Result<(), Fail> {
     let line = joined(alloc, &[EMPTY, "  a\n"])?;
-    let lines = repeated(alloc, 1_000, line.as_str())?;
-    let written = AtomicU64::new(0);
-    let mut shelf = EmptyFiles::new(lines.as_bytes(), &written);
-    let mut out = PatientSink::new(alloc, may_wait, &written);
-    let mut err = PatientSink::new(alloc, may_wait, &written);
+    let lines = line.as_str().repeat(alloc, 1_000)?;
     let names = names(alloc, 1_000)?;
-    let answer = summed(rt, alloc, &names, &mut shelf, &mut out, &mut err);
-    assert_eq!(rt; answer, Ok(tally(1_000, 0, 0)));
-    assert_eq!(rt; out.bytes.as_slice(), lines.as_bytes());
-    assert_eq!(rt; out.writes, writes);
-
-    let lists = [String::from_str(alloc, "l")?];
-    let mut out = PatientSink::new(alloc, may_wait, &written);
-    let mut err = PatientSink::new(alloc, may_wait, &written);
-    let mut asked = check_options(false, 100_000);
-    asked.workers = 2;
-    let answer = check_into(rt, alloc, &mut shelf, &lists, &mut out, &mut err, &asked);
-    let verdicts = repeated(alloc, 1_000, "a: OK\n")?;
-    assert_eq!(rt; answer, Ok(tally(1_000, 0, 0)));
-    assert_eq!(rt; out.bytes.as_slice(), verdicts.as_bytes());
-    assert_eq!(rt; out.writes, writes);
-    assert_eq!(rt; err.writes, 0);
-    Ok(())
+    assert_sum_writes(rt, alloc, &names, lines.as_str(), may_wait, writes);
+    let lists = strings(alloc, &["l"])?;
+    assert_check_writes(rt, alloc, &lists, lines.as_str(), may_wait, writes)
 }
 
 #[test]
@@ -201,6 +236,28 @@ fn the_lines_of_a_round_go_in_one_write(rt: HostRuntime) -> Result<(), Fail> {
 #[test]
 fn a_line_that_may_not_wait_is_written_alone(rt: HostRuntime) -> Result<(), Fail> {
     assert_writes(&rt, rt.alloc(), false, 1_000)
+}
+
+// So many bytes of these lines are written before the slow name is begun, and all of them in so many writes.
+fn assert_before_slow<R: Abort + Threads + Wait + Sync>(
+    rt: &R,
+    alloc: Global,
+    names: &[&str],
+    lines: &[&str],
+    before_slow: usize,
+    writes: u64,
+) -> Result<(), Fail> {
+    let names = strings(alloc, names)?;
+    let lines = joined(alloc, lines)?;
+    let written = AtomicU64::new(0);
+    let mut shelf = EmptyFiles::new(b"", &written);
+    let mut out = PatientSink::new(alloc, true, &written);
+    let mut err = PatientSink::new(alloc, true, &written);
+    let answer = summed(rt, alloc, &names, &mut shelf, &mut out, &mut err);
+    assert_eq!(rt; answer, Ok(tally(names.len() as u64, 0, 0)));
+    assert_eq!(rt; shelf.before_slow, before_slow as u64);
+    out.assert(rt, lines.as_str(), writes);
+    Ok(())
 }
 
 // Lines do not wait for a name that is begun in its turn; its own waits for those after it that are known.
@@ -223,46 +280,39 @@ fn lines_before_a_slow_name_are_written(rt: HostRuntime) -> Result<(), Fail> {
             2,
         ),
     ] {
-        let written = AtomicU64::new(0);
-        let mut shelf = EmptyFiles::new(b"", &written);
-        let mut out = PatientSink::new(alloc, true, &written);
-        let mut err = PatientSink::new(alloc, true, &written);
-        let answer = summed(
-            &rt,
-            alloc,
-            &strings(alloc, names)?,
-            &mut shelf,
-            &mut out,
-            &mut err,
-        );
-        assert_eq!(rt; answer, Ok(tally(names.len() as u64, 0, 0)));
-        assert_eq!(rt; out.bytes.as_slice(), joined(alloc, &lines)?.as_bytes());
-        assert_eq!(rt; shelf.before_slow, before_slow as u64);
-        assert_eq!(rt; out.writes, writes);
+        assert_before_slow(&rt, alloc, names, &lines, before_slow, writes)?;
     }
     Ok(())
+}
+
+// Sums twenty names with outputs of this length, and answers how many bytes were written before `late` was hashed.
+fn before_late<R: Abort + Threads + Wait + Sync>(
+    rt: &R,
+    alloc: Global,
+    names: &[String],
+    length: u32,
+) -> u64 {
+    let written = AtomicU64::new(0);
+    let mut shelf = EmptyFiles::new(b"", &written);
+    let mut out = PatientSink::new(alloc, true, &written);
+    let mut err = PatientSink::new(alloc, true, &written);
+    let mut asked = options(2, 0);
+    asked.workers = 2;
+    asked.length = length;
+    let answer = sum_into(rt, alloc, &mut shelf, names, &mut out, &mut err, &asked);
+    assert_eq!(rt; answer, Ok(tally(20, 0, 0)));
+    shelf.before_late.load(Ordering::SeqCst)
 }
 
 // Lines of two mebibytes end a round early: the eleventh of twenty names is hashed only after some of them are written.
 #[test]
 fn long_lines_end_a_round(rt: HostRuntime) -> Result<(), Fail> {
     let alloc = rt.alloc();
-    let mut names = names(alloc, 10)?;
-    names.push(String::from_str(alloc, "late")?)?;
-    for _ in 0..9 {
-        names.push(String::from_str(alloc, "a")?)?;
-    }
+    let mut names = names(alloc, 20)?;
+    assert!(&rt; names.len() == 20);
+    names[10] = String::from_str(alloc, "late")?;
     for (length, is_round_over) in [(32, false), (1 << 20, true)] {
-        let written = AtomicU64::new(0);
-        let mut shelf = EmptyFiles::new(b"", &written);
-        let mut out = PatientSink::new(alloc, true, &written);
-        let mut err = PatientSink::new(alloc, true, &written);
-        let mut asked = options(2, 0);
-        asked.workers = 2;
-        asked.length = length;
-        let answer = sum_into(&rt, alloc, &mut shelf, &names, &mut out, &mut err, &asked);
-        assert_eq!(rt; answer, Ok(tally(20, 0, 0)));
-        let before = shelf.before_late.load(Ordering::SeqCst);
+        let before = before_late(&rt, alloc, &names, length);
         assert_eq!(rt; before > 0, is_round_over);
     }
     Ok(())
@@ -286,7 +336,7 @@ fn any_write_of_lines_fails(rt: HostRuntime) -> Result<(), Fail> {
             _ => Err(RunFault::WriteFault),
         };
         assert_eq!(rt; answer, expected);
-        let lines = repeated(alloc, count, line.as_str())?;
+        let lines = line.as_str().repeat(alloc, count)?;
         assert_eq!(rt; out.bytes.as_slice(), lines.as_bytes());
     }
     Ok(())

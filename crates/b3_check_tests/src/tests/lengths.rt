@@ -1,6 +1,8 @@
 // Contents of each length around what they are cut into, in each way in which they are given.
 
-use crate::tests::contents::{LINES, REGION_AND_A_BYTE, line_of, name_in, pattern};
+use crate::tests::contents::{
+    LONG_SPANS_AND_A_BYTE, REGION_AND_A_BYTE, line_of, lines, name_in, pattern,
+};
 use crate::tests::ended::{check, sum, sum_files};
 use crate::tests::lettered_files::{Access, LetteredFiles, number_in};
 use crate::tests::recording::{RecordedFiles, file_of};
@@ -37,7 +39,7 @@ fn assert_line<R: Abort + Threads + Wait + Sync>(
     workers: u32,
     line: &'static str,
 ) -> Result<(), Fail> {
-    let lines = format!(in alloc; "{line}\n{}\n{}\n", LINES[1], LINES[0])?;
+    let lines = format!(in alloc; "{line}\n{}\n{}\n", line_of("g1"), line_of("g0"))?;
     let mut shelf = LetteredFiles::new(alloc, kept, b"", access);
     shelf.most = most;
     let asked = by_workers(workers, 10_000_000);
@@ -50,60 +52,79 @@ fn assert_line<R: Abort + Threads + Wait + Sync>(
 #[test]
 fn each_length_at_places(rt: HostRuntime) -> Result<(), Fail> {
     let kept = pattern(rt.alloc(), KEPT)?;
-    for line in LINES {
-        let is_short = number_in(name_in(line)?) < 2 * MEBIBYTE;
+    for line in lines() {
+        let is_short = number_in(name_in(*line)?) < 2 * MEBIBYTE;
         let workers: &[u32] = if is_short { &[1, 2, 3, 4, 64] } else { &[1, 4] };
         for workers in workers {
             let access = Access::AtPlaces;
-            assert_line(&rt, rt.alloc(), &kept, access, usize::MAX, *workers, line)?;
+            assert_line(&rt, rt.alloc(), &kept, access, usize::MAX, *workers, *line)?;
         }
     }
     Ok(())
 }
 
+// Sums a long content by four workers.
+fn assert_long<R: Abort + Threads + Wait + Sync>(
+    rt: &R,
+    alloc: Global,
+    line: &'static str,
+) -> Result<(), Fail> {
+    let kept = pattern(alloc, KEPT)?;
+    let access = Access::AtPlaces;
+    assert_line(rt, alloc, &kept, access, usize::MAX, 4, line)
+}
+
+#[test]
+fn long_spans_and_a_byte(rt: HostRuntime) -> Result<(), Fail> {
+    assert_long(&rt, rt.alloc(), LONG_SPANS_AND_A_BYTE)
+}
+
 #[test]
 fn a_region_and_a_byte(rt: HostRuntime) -> Result<(), Fail> {
-    let kept = pattern(rt.alloc(), KEPT)?;
-    let line = REGION_AND_A_BYTE;
-    assert_line(
-        &rt,
-        rt.alloc(),
-        &kept,
-        Access::AtPlaces,
-        usize::MAX,
-        4,
-        line,
-    )
+    assert_long(&rt, rt.alloc(), REGION_AND_A_BYTE)
 }
 
 // Some reads end before what the buffer takes, and some would go beyond it.
 #[test]
 fn each_length_in_order(rt: HostRuntime) -> Result<(), Fail> {
     let kept = pattern(rt.alloc(), KEPT)?;
-    for line in LINES {
+    for line in lines() {
         for most in [40_000, 65_535, usize::MAX] {
-            assert_line(&rt, rt.alloc(), &kept, Access::InOrder, most, 4, line)?;
+            assert_line(&rt, rt.alloc(), &kept, Access::InOrder, most, 4, *line)?;
         }
-        if number_in(name_in(line)?) < MEBIBYTE {
-            assert_line(&rt, rt.alloc(), &kept, Access::InOrder, 1, 4, line)?;
+        if number_in(name_in(*line)?) < MEBIBYTE {
+            assert_line(&rt, rt.alloc(), &kept, Access::InOrder, 1, 4, *line)?;
         }
     }
+    Ok(())
+}
+
+// Sums a content in memory.
+fn assert_in_memory<R: Abort + Threads + Wait + Sync>(
+    rt: &R,
+    alloc: Global,
+    line: &str,
+    name: &str,
+    content: &[u8],
+    workers: u32,
+) -> Result<(), Fail> {
+    let text = format!(in alloc; "{line}\n")?;
+    let asked = by_workers(workers, 1_000);
+    let ended = sum_files(rt, alloc, &[(name, content)], &[name], &asked)?;
+    ended.assert(rt, line, Ok(tally(1, 0, 0)), text.as_bytes(), b"");
     Ok(())
 }
 
 #[test]
 fn each_length_in_memory(rt: HostRuntime) -> Result<(), Fail> {
     let kept = pattern(rt.alloc(), 2 * MEBIBYTE as usize)?;
-    for line in LINES {
-        let name = name_in(line)?;
+    for line in lines() {
+        let name = name_in(*line)?;
         let Some(content) = kept.get(..number_in(name) as usize) else {
             continue;
         };
         for workers in [1, 2, 3, 4, 64] {
-            let asked = by_workers(workers, 1_000);
-            let ended = sum_files(&rt, rt.alloc(), &[(name, content)], &[name], &asked)?;
-            let text = format!(in rt.alloc(); "{line}\n")?;
-            ended.assert(&rt, line, Ok(tally(1, 0, 0)), text.as_bytes(), b"");
+            assert_in_memory(&rt, rt.alloc(), *line, name, content, workers)?;
         }
     }
     Ok(())

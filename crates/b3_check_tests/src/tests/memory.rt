@@ -1,36 +1,92 @@
 // Devices in memory, and runs over them that are refused memory.
 
-ghost use Rattle.std.specs.Prelude.{◌≡◌, ◌^◌, ◌<◌};
+ghost use Rattle.std.specs.Prelude.{◌≡◌, ◌^◌, ◌<◌, ◌≤◌};
 
 use crate::tests::checks::{THREE_COMPLAINTS, THREE_LINES, THREE_VERDICTS};
 use crate::tests::ended::{check_into, sum_into};
 use crate::tests::{check_options, lines_tally, options, tally};
 use b3_check::{Answer, MemoryShelf, MemorySink, RunFault, Shelf, Sink, Tally, Verdict, judge};
-use b3_lines::read_line;
+use b3_lines::{Line, read_line};
 use std::alloc::{AllocError, Global};
 use std::process::Abort;
 use std::test::Fail;
 
+// A call of a shelf, and its answer.
+enum Step {
+    Put(&'static str, &'static [u8]),
+    // Whether the name is there.
+    Begin(&'static str, bool),
+    // What is read next into a buffer of three bytes.
+    Read(&'static [u8]),
+}
+
+// A shelf in memory, and how often it was asked for what may fail.
+#[derive(Drop)]
+struct Asked {
+    shelf: MemoryShelf,
+    calls: u64,
+    ghost counted: { ⟦<MemoryShelf as Shelf>⟧.failures shelf ≤ calls },
+}
+
+impl Asked {
+    // A shelf with no file.
+    fn new(alloc: Global) -> Asked {
+        Asked {
+            shelf: MemoryShelf::new(alloc),
+            calls: 0,
+        }
+    }
+
+    fn begin(&mut self, rt: &impl Abort, name: &str, is_there: bool) {
+        assert!(rt; self.calls < 1_000);
+        self.calls += 1;
+        assert_eq!(rt; self.shelf.begin(name).is_ok(), is_there, "{name}");
+    }
+
+    fn read(&mut self, rt: &impl Abort, most: usize, bytes: &[u8]) {
+        let mut buffer = [0; 8];
+        assert!(rt; 1 <= most && most <= 8 && self.calls < 1_000);
+        self.calls += 1;
+        assert_eq!(rt; self.shelf.read(&mut buffer[..most]), Ok(bytes.len()));
+        assert!(rt; buffer.starts_with(bytes));
+    }
+
+    fn step(&mut self, rt: &impl Abort, step: &Step) -> Result<(), AllocError> {
+        match *step {
+            Step::Put(name, content) => self.shelf.put(name, content)?,
+            Step::Begin(name, is_there) => self.begin(rt, name, is_there),
+            Step::Read(bytes) => self.read(rt, 3, bytes),
+        }
+        Ok(())
+    }
+}
+
+const STEPS: [Step; 13] = [
+    Step::Read(b""),
+    Step::Put("a", b"old"),
+    Step::Put("b", b"beta"),
+    Step::Put("a", b"alpha"),
+    Step::Begin("c", false),
+    Step::Begin("a", true),
+    Step::Read(b"alp"),
+    Step::Read(b"ha"),
+    Step::Read(b""),
+    Step::Begin("b", true),
+    Step::Read(b"bet"),
+    Step::Put("c", b""),
+    Step::Read(b""),
+];
+
+fn steps() -> &'static [Step] {
+    &STEPS
+}
+
 #[test]
 fn a_memory_shelf_gives_what_was_put(rt: HostRuntime) -> Result<(), Fail> {
-    let mut shelf = MemoryShelf::new(rt.alloc());
-    let mut buffer = [0; 3];
-    assert_eq!(rt; shelf.read(&mut buffer), Ok(0));
-    shelf.put("a", b"old")?;
-    shelf.put("b", b"beta")?;
-    shelf.put("a", b"alpha")?;
-    assert!(rt; shelf.begin("c").is_err());
-    assert_eq!(rt; shelf.begin("a"), Ok(()));
-    assert_eq!(rt; shelf.read(&mut buffer), Ok(3));
-    assert_eq!(rt; buffer, *b"alp");
-    assert_eq!(rt; shelf.read(&mut buffer), Ok(2));
-    assert_eq!(rt; buffer[..2], b"ha"[..]);
-    assert_eq!(rt; shelf.read(&mut buffer), Ok(0));
-    assert_eq!(rt; shelf.begin("b"), Ok(()));
-    assert_eq!(rt; shelf.read(&mut buffer), Ok(3));
-    assert_eq!(rt; buffer, *b"bet");
-    shelf.put("c", b"")?;
-    assert_eq!(rt; shelf.read(&mut buffer), Ok(0));
+    let mut asked = Asked::new(rt.alloc());
+    for step in steps() {
+        asked.step(&rt, step)?;
+    }
     Ok(())
 }
 
@@ -58,20 +114,17 @@ fn is_granted(alloc: Global) -> bool {
 // Each growth may be refused: what is asserted holds all the same.
 #[test]
 fn a_refused_put_leaves_the_map_as_it_was(rt: HostRuntime) {
-    let mut shelf = MemoryShelf::new(rt.alloc());
-    let mut buffer = [0; 8];
-    let is_put = shelf.put("-", b"old").is_ok();
-    let is_other_put = shelf.put("other", b"other").is_ok();
-    let is_replaced = shelf.put("-", b"new").is_ok();
-    assert_eq!(rt; shelf.read(&mut buffer), Ok(0));
-    assert_eq!(rt; shelf.begin("other").is_ok(), is_other_put);
-    assert_eq!(rt; shelf.begin("-").is_ok(), is_put || is_replaced);
+    let mut asked = Asked::new(rt.alloc());
+    let is_put = asked.shelf.put("-", b"old").is_ok();
+    let is_other_put = asked.shelf.put("other", b"other").is_ok();
+    let is_replaced = asked.shelf.put("-", b"new").is_ok();
+    asked.read(&rt, 8, b"");
+    asked.begin(&rt, "other", is_other_put);
+    asked.begin(&rt, "-", is_put || is_replaced);
     if is_put || is_replaced {
-        let content = if is_replaced { b"new" } else { b"old" };
-        assert_eq!(rt; shelf.read(&mut buffer), Ok(3));
-        assert_eq!(rt; buffer[..3], content[..]);
+        asked.read(&rt, 8, if is_replaced { b"new" } else { b"old" });
     }
-    assert!(rt; is_granted(rt.alloc()), "refused after the last call");
+    assert!(&rt; is_granted(rt.alloc()), "refused after the last call");
 }
 
 // A text, for which memory is asked again where it was refused.
@@ -160,25 +213,36 @@ fn refused_memory_of_a_check_of_three_lines(rt: HostRuntime) -> Result<(), Fail>
     Ok(())
 }
 
-// Puts a file on a shelf and reads a line, then perhaps calls everything that is said to take no memory: the devices'
-// other calls, the verdict of the line, a status and a fault's text.
+// The calls of the devices that are said to take no memory, of a shelf with the file `x`.
+fn device_calls(rt: &impl Abort, alloc: Global, shelf: &mut MemoryShelf)
+    requires { ⟦<MemoryShelf as Shelf>⟧.failures shelf.old < 2 ^ 63 }
+{
+    let mut buffer = [1; 2];
+    assert_eq!(rt; shelf.begin("x"), Ok(()));
+    assert_eq!(rt; shelf.read(&mut buffer), Ok(1));
+    assert_eq!(rt; shelf.read(&mut buffer), Ok(0));
+    assert!(rt; shelf.begin("none").is_err());
+    assert!(rt; MemoryShelf::new(alloc).begin("x").is_err());
+    assert!(rt; MemorySink::new(alloc).bytes().is_empty());
+}
+
+// The verdict of a line, a status and a fault's text, which are said to take none.
+fn other_calls(rt: &impl Abort, line: &Line) {
+    assert_eq!(rt; judge(line, &Answer::Digest(line.digest)), Verdict::Good);
+    assert_eq!(rt; judge(line, &Answer::CannotRead), Verdict::Unreadable);
+    assert_eq!(rt; tally(0, 0, 1).status(), 1);
+    assert_eq!(rt; RunFault::Memory.text(), "b3sum: out of memory");
+}
+
+// Puts a file on a shelf and reads a line, then perhaps makes these calls.
 fn growths(rt: &impl Abort, alloc: Global, with_calls: bool) -> Result<(), Fail> {
     let mut shelf = MemoryShelf::new(alloc);
     shelf.put("x", b"\0")?;
     let text = b"af1349b9f5f9a1a6a0404dea36dcc9499bcb25c9adc112b7cc9a93cae41f3262  x";
     let line = read_line(alloc, text)?;
     if with_calls {
-        let mut buffer = [1; 2];
-        assert_eq!(rt; shelf.begin("x"), Ok(()));
-        assert_eq!(rt; shelf.read(&mut buffer), Ok(1));
-        assert_eq!(rt; shelf.read(&mut buffer), Ok(0));
-        assert!(rt; shelf.begin("none").is_err());
-        assert!(rt; MemoryShelf::new(alloc).begin("x").is_err());
-        assert!(rt; MemorySink::new(alloc).bytes().is_empty());
-        assert_eq!(rt; judge(&line, &Answer::Digest(line.digest)), Verdict::Good);
-        assert_eq!(rt; judge(&line, &Answer::CannotRead), Verdict::Unreadable);
-        assert_eq!(rt; tally(0, 0, 1).status(), 1);
-        assert_eq!(rt; RunFault::Memory.text(), "b3sum: out of memory");
+        device_calls(rt, alloc, &mut shelf);
+        other_calls(rt, &line);
     }
     let _last = String::from_str(alloc, "x")?;
     Ok(())

@@ -98,6 +98,21 @@ impl Texts {
         self.warnings.push_str(warning.as_str())?;
         Ok(())
     }
+
+    // A sum of these names answered this, and wrote just these texts.
+    fn assert_sum(
+        &self,
+        rt: &impl Abort,
+        workers: u32,
+        answer: Result<Tally, RunFault>,
+        out: &[u8],
+        err: &[u8],
+    ) {
+        let counts = tally(self.ok, self.failed, 0);
+        assert_eq!(rt; answer, Ok(counts), "{workers} workers");
+        assert_eq!(rt; out, self.lines.as_slice(), "{workers} workers");
+        assert_eq!(rt; err, self.complaints.as_bytes(), "{workers} workers");
+    }
 }
 
 fn texts_of(alloc: Global, kept: &[u8], names: &[String]) -> Result<Texts, Fail> {
@@ -121,17 +136,18 @@ fn with_feeds(alloc: Global, names: &[String]) -> Result<String, Fail> {
     Ok(text)
 }
 
-// Sums the names and checks their lines. One worker hashes nothing beside others.
-fn assert_names<R: Abort + Threads + Wait + Sync>(
+// Sums the names: these texts are written, and these names are begun.
+fn assert_sum<R: Abort + Threads + Wait + Sync>(
     rt: &R,
     alloc: Global,
+    kept: &[u8],
+    texts: &Texts,
     names: &[String],
+    begun: &str,
     workers: u32,
     access: Access,
-) -> Result<(), Fail> {
-    let kept = pattern(alloc, KEPT)?;
-    let texts = texts_of(alloc, &kept, names)?;
-    let mut shelf = LetteredFiles::new(alloc, &kept, texts.list.as_slice(), access);
+) {
+    let mut shelf = LetteredFiles::new(alloc, kept, texts.list.as_slice(), access);
     shelf.most = 20_000;
     let mut out = MemorySink::new(alloc);
     let mut err = MemorySink::new(alloc);
@@ -140,32 +156,29 @@ fn assert_names<R: Abort + Threads + Wait + Sync>(
         ..options(4, 0)
     };
     let answer = sum_into(rt, alloc, &mut shelf, names, &mut out, &mut err, &asked);
-    assert_eq!(rt;
-        answer,
-        Ok(tally(texts.ok, texts.failed, 0)),
-        "{workers} workers"
-    );
-    assert_eq!(rt; out.bytes(), texts.lines.as_slice(), "{workers} workers");
-    assert_eq!(rt;
-        err.bytes(),
-        texts.complaints.as_bytes(),
-        "{workers} workers"
-    );
+    texts.assert_sum(rt, workers, answer, out.bytes(), err.bytes());
     assert_eq!(rt; shelf.failures(), texts.failed);
-    if workers > 1 && access == Access::Beside {
-        assert_eq!(rt; shelf.begun(), texts.begun.as_bytes());
-    } else {
-        assert_eq!(rt; shelf.begun(), with_feeds(alloc, names)?.as_bytes());
-    }
+    assert_eq!(rt; shelf.begun(), begun.as_bytes());
+}
 
-    let mut shelf = LetteredFiles::new(alloc, &kept, texts.list.as_slice(), access);
+// Checks the list of their lines, each before one that is malformed.
+fn assert_check<R: Abort + Threads + Wait + Sync>(
+    rt: &R,
+    alloc: Global,
+    kept: &[u8],
+    texts: &Texts,
+    malformed: u64,
+    workers: u32,
+    access: Access,
+) -> Result<(), Fail> {
+    let mut shelf = LetteredFiles::new(alloc, kept, texts.list.as_slice(), access);
     shelf.most = 20_000;
     let asked = CheckOptions {
         workers,
         ..check_options(false, 200_000)
     };
     let ended = check(rt, alloc, &mut shelf, &["l"], &asked)?;
-    let counts = lines_tally(texts.ok, 0, texts.failed, names.len() as u64);
+    let counts = lines_tally(texts.ok, 0, texts.failed, malformed);
     let verdicts = texts.verdicts.as_bytes();
     ended.assert(
         rt,
@@ -176,6 +189,40 @@ fn assert_names<R: Abort + Threads + Wait + Sync>(
     );
     assert_eq!(rt; shelf.failures(), texts.failed);
     Ok(())
+}
+
+// Sums the names and checks their lines. One worker hashes nothing beside others.
+fn assert_names<R: Abort + Threads + Wait + Sync>(
+    rt: &R,
+    alloc: Global,
+    names: &[String],
+    workers: u32,
+    access: Access,
+) -> Result<(), Fail> {
+    let kept = pattern(alloc, KEPT)?;
+    let texts = texts_of(alloc, &kept, names)?;
+    let all = with_feeds(alloc, names)?;
+    let is_beside = workers > 1 && access == Access::Beside;
+    let begun = if is_beside { &texts.begun } else { &all };
+    assert_sum(
+        rt,
+        alloc,
+        &kept,
+        &texts,
+        names,
+        begun.as_str(),
+        workers,
+        access,
+    );
+    assert_check(
+        rt,
+        alloc,
+        &kept,
+        &texts,
+        names.len() as u64,
+        workers,
+        access,
+    )
 }
 
 #[test]
@@ -209,6 +256,15 @@ struct Came {
     failures: u64,
 }
 
+impl Came {
+    // The run answered this, wrote just these bytes, and began these names.
+    fn assert(&self, rt: &impl Abort, answer: Result<Tally, RunFault>, out: &[u8], begun: &[u8]) {
+        assert_eq!(rt; self.answer, answer);
+        assert_eq!(rt; self.begun.as_slice(), begun);
+        assert_eq!(rt; self.out.as_slice(), out);
+    }
+}
+
 // Sums names that are hashed one after the other, by reads of a thousand bytes. The output takes so many bytes.
 fn sum_few<R: Abort + Threads + Wait + Sync>(
     rt: &R,
@@ -240,12 +296,10 @@ fn first_line(alloc: Global) -> Result<Vec<u8>, Fail> {
 
 #[test]
 fn a_name_asked_twice_in_a_row_is_begun_twice(rt: HostRuntime) -> Result<(), Fail> {
-    let mut lines = first_line(rt.alloc())?;
-    lines.extend_from_slice(first_line(rt.alloc())?.as_slice())?;
     let came = sum_few(&rt, rt.alloc(), &["g3000", "g3000"], 1_000)?;
-    assert_eq!(&rt; came.answer, Ok(tally(2, 0, 0)));
-    assert_eq!(&rt; came.begun.as_slice(), b"g3000\ng3000\n".as_slice());
-    assert_eq!(&rt; came.out.as_slice(), lines.as_slice());
+    let line = first_line(rt.alloc())?;
+    let lines = line.repeat(rt.alloc(), 2)?;
+    came.assert(&rt, Ok(tally(2, 0, 0)), &lines, b"g3000\ng3000\n");
     Ok(())
 }
 
@@ -255,9 +309,8 @@ fn a_write_that_fails_ends_the_run(rt: HostRuntime) -> Result<(), Fail> {
     let line = first_line(rt.alloc())?;
     for taken in 0..line.len() {
         let came = sum_few(&rt, rt.alloc(), &["g3000", "m1", "g1"], taken)?;
-        assert_eq!(&rt; came.answer, Err(RunFault::WriteFault));
-        assert_eq!(&rt; came.begun.as_slice(), b"g3000\n".as_slice());
-        assert_eq!(&rt; came.out.as_slice(), &line.as_slice()[..taken]);
+        let fault = Err(RunFault::WriteFault);
+        came.assert(&rt, fault, &line[..taken], b"g3000\n");
         assert_eq!(&rt; came.failures, 0);
     }
     Ok(())
@@ -270,9 +323,8 @@ fn a_fault_comes_after_the_line(rt: HostRuntime) -> Result<(), Fail> {
     let line = first_line(rt.alloc())?;
     let names = ["g3000", "g3001", "m1"];
     let came = sum_few(&rt, rt.alloc(), &names, 1_000)?;
-    assert_eq!(&rt; came.answer, Err(RunFault::EndlessInput));
-    assert_eq!(&rt; came.begun.as_slice(), b"g3000\ng3001\n".as_slice());
-    assert_eq!(&rt; came.out.as_slice(), line.as_slice());
+    let fault = Err(RunFault::EndlessInput);
+    came.assert(&rt, fault, &line, b"g3000\ng3001\n");
     assert_eq!(&rt; came.failures, 0);
     Ok(())
 }

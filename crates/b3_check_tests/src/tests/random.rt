@@ -11,7 +11,9 @@ use crate::tests::report::{Report, check_report, sum_report};
 use b3_check::{CheckOptions, Form, KeyChoice, RunFault, SumOptions, Tally};
 use std::alloc::Global;
 use std::process::Abort;
+use std::sync::Wait;
 use std::test::Fail;
+use std::thread::Threads;
 
 // Names that files may have, a name that none has, and names that no line can show.
 const NAMES: [&str; 10] = [
@@ -329,6 +331,15 @@ impl Seen {
     }
 }
 
+// Compares what a run wrote with its report: a whole text, or the beginning of one.
+fn compare_text(rt: &impl Abort, seed: u64, is_whole: bool, written: &[u8], text: &[u8]) {
+    if is_whole {
+        assert_eq!(rt; written, text, "run {seed}");
+    } else {
+        assert!(rt; text.starts_with(written), "run {seed}");
+    }
+}
+
 // Compares a run with its report: at its end the texts are the report's, at a fault beginnings of them.
 pub fn compare(
     rt: &impl Abort,
@@ -347,44 +358,56 @@ pub fn compare(
     assert_eq!(rt; answer, expected, "run {seed}");
     assert_eq!(rt; answer == Err(RunFault::WriteFault), is_cut, "run {seed}");
     assert!(rt; report.is_all_taken(), "run {seed}");
-    if answer.is_ok() {
-        assert_eq!(rt; out.bytes.as_slice(), report.out.as_slice(), "run {seed}");
-        assert_eq!(rt; err.bytes.as_slice(), report.err.as_slice(), "run {seed}");
-    } else {
-        assert!(rt;
-            report.out.as_slice().starts_with(out.bytes.as_slice()),
-            "run {seed}"
-        );
-        assert!(rt;
-            report.err.as_slice().starts_with(err.bytes.as_slice()),
-            "run {seed}"
-        );
+    compare_text(rt, seed, answer.is_ok(), &out.bytes, &report.out);
+    compare_text(rt, seed, answer.is_ok(), &err.bytes, &report.err);
+}
+
+// Sums these names of these files, by calls of which some may fail, and compares what was written with the report.
+fn compare_sum<R: Abort + Threads + Wait + Sync>(
+    rt: &R,
+    alloc: Global,
+    seed: u64,
+    rng: &mut Rng,
+    files: &[File],
+    options: &SumOptions,
+    names: &[String],
+    seen: &mut Seen,
+) -> Result<(), Fail> {
+    let most = rng.piece();
+    let calls_before = rng.calls_before(30);
+    let mut shelf = RecordedFiles::new(alloc, files, most, calls_before);
+    let mut out = PieceSink::new(alloc, rng.piece(), rng.calls_before(20));
+    let mut err = PieceSink::new(alloc, rng.piece(), rng.calls_before(20));
+    let answer = sum_into(rt, alloc, &mut shelf, names, &mut out, &mut err, options);
+    let answers = shelf.answers.as_slice();
+    let report = sum_report(rt, alloc, options, names, answers)?;
+    compare(rt, seed, answer, &report, &out, &err);
+    seen.add(answer, &report, answers)
+}
+
+// Sums names at random.
+fn sum_at_random<R: Abort + Threads + Wait + Sync>(
+    rt: &R,
+    alloc: Global,
+    seed: u64,
+    seen: &mut Seen,
+) -> Result<(), Fail> {
+    let mut rng = Rng { state: seed };
+    let mut files = files_at_random(alloc, &mut rng)?;
+    files.insert(0, key_at_random(alloc, &mut rng)?)?;
+    let options = sum_options_at_random(alloc, &mut rng)?;
+    let names = names_at_random(alloc, &mut rng, 8)?;
+    if options.form == Form::Raw && names.len() != 1 {
+        return Ok(());
     }
+    compare_sum(rt, alloc, seed, &mut rng, &files, &options, &names, seen)
 }
 
 #[test]
 fn random_sums(rt: HostRuntime) -> Result<(), Fail> {
-    let alloc = rt.alloc();
-    let mut seen = Seen::nothing(alloc);
+    let mut seen = Seen::nothing(rt.alloc());
     for seed in 0..300u64 {
-        let mut rng = Rng { state: seed };
-        let mut files = files_at_random(alloc, &mut rng)?;
-        files.insert(0, key_at_random(alloc, &mut rng)?)?;
-        let options = sum_options_at_random(alloc, &mut rng)?;
-        let names = names_at_random(alloc, &mut rng, 8)?;
-        if options.form == Form::Raw && names.len() != 1 {
-            continue;
-        }
-        let most = rng.piece();
-        let calls_before = rng.calls_before(30);
-        let mut shelf = RecordedFiles::new(alloc, files.as_slice(), most, calls_before);
-        let mut out = PieceSink::new(alloc, rng.piece(), rng.calls_before(20));
-        let mut err = PieceSink::new(alloc, rng.piece(), rng.calls_before(20));
-        let answer = sum_into(&rt, alloc, &mut shelf, &names, &mut out, &mut err, &options);
-        let answers = shelf.answers.as_slice();
-        let report = sum_report(&rt, alloc, &options, names.as_slice(), answers)?;
-        compare(&rt, seed, answer, &report, &out, &err);
-        seen.add(answer, &report, answers)?;
+        sum_at_random(&rt, rt.alloc(), seed, &mut seen)?;
     }
     let faults = [
         RunFault::ReadFault,
@@ -397,29 +420,52 @@ fn random_sums(rt: HostRuntime) -> Result<(), Fail> {
     Ok(())
 }
 
+// Checks these lists of these files, likewise.
+fn compare_check<R: Abort + Threads + Wait + Sync>(
+    rt: &R,
+    alloc: Global,
+    seed: u64,
+    rng: &mut Rng,
+    files: &[File],
+    options: &CheckOptions,
+    lists: &[String],
+    seen: &mut Seen,
+) -> Result<(), Fail> {
+    let most = rng.piece();
+    let calls_before = rng.calls_before(50);
+    let mut shelf = RecordedFiles::new(alloc, files, most, calls_before);
+    let mut out = PieceSink::new(alloc, rng.piece(), rng.calls_before(40));
+    let mut err = PieceSink::new(alloc, rng.piece(), rng.calls_before(40));
+    let answer = check_into(rt, alloc, &mut shelf, lists, &mut out, &mut err, options);
+    let answers = shelf.answers.as_slice();
+    let report = check_report(rt, alloc, options, lists, answers)?;
+    compare(rt, seed, answer, &report, &out, &err);
+    seen.add(answer, &report, answers)
+}
+
+// Checks lists at random.
+fn check_at_random<R: Abort + Threads + Wait + Sync>(
+    rt: &R,
+    alloc: Global,
+    seed: u64,
+    seen: &mut Seen,
+) -> Result<(), Fail> {
+    let mut rng = Rng { state: seed };
+    let mut files = files_at_random(alloc, &mut rng)?;
+    let list = list_at_random(alloc, &mut rng, "l", &files)?;
+    let other = list_at_random(alloc, &mut rng, "m\r", &files)?;
+    files.insert(0, list)?;
+    files.insert(0, other)?;
+    let options = check_options_at_random(&mut rng);
+    let lists = lists_at_random(alloc, &mut rng)?;
+    compare_check(rt, alloc, seed, &mut rng, &files, &options, &lists, seen)
+}
+
 #[test]
 fn random_checks(rt: HostRuntime) -> Result<(), Fail> {
-    let alloc = rt.alloc();
-    let mut seen = Seen::nothing(alloc);
+    let mut seen = Seen::nothing(rt.alloc());
     for seed in 0..400u64 {
-        let mut rng = Rng { state: seed };
-        let mut files = files_at_random(alloc, &mut rng)?;
-        let list = list_at_random(alloc, &mut rng, "l", files.as_slice())?;
-        let other = list_at_random(alloc, &mut rng, "m\r", files.as_slice())?;
-        files.insert(0, list)?;
-        files.insert(0, other)?;
-        let options = check_options_at_random(&mut rng);
-        let lists = lists_at_random(alloc, &mut rng)?;
-        let most = rng.piece();
-        let calls_before = rng.calls_before(50);
-        let mut shelf = RecordedFiles::new(alloc, files.as_slice(), most, calls_before);
-        let mut out = PieceSink::new(alloc, rng.piece(), rng.calls_before(40));
-        let mut err = PieceSink::new(alloc, rng.piece(), rng.calls_before(40));
-        let answer = check_into(&rt, alloc, &mut shelf, &lists, &mut out, &mut err, &options);
-        let answers = shelf.answers.as_slice();
-        let report = check_report(&rt, alloc, &options, lists.as_slice(), answers)?;
-        compare(&rt, seed, answer, &report, &out, &err);
-        seen.add(answer, &report, answers)?;
+        check_at_random(&rt, rt.alloc(), seed, &mut seen)?;
     }
     let faults = [RunFault::WriteFault, RunFault::EndlessInput];
     seen.has_each(&rt, &faults, &REASONS);

@@ -2,9 +2,9 @@
 // and where it is not, and lists at random with every set of these options beside a plain retelling.
 
 use crate::tests::check_options;
-use crate::tests::ended::{check_files, check_into};
+use crate::tests::ended::{check_files, check_into, strings};
 use crate::tests::random::{Rng, compare, files_at_random, list_at_random};
-use crate::tests::recording::{PieceSink, RecordedFiles};
+use crate::tests::recording::{File, PieceSink, RecordedFiles};
 use crate::tests::report::check_report;
 use b3_check::{CheckOptions, RunFault, Tally};
 use std::alloc::Global;
@@ -90,7 +90,7 @@ const ALL_FAILURES: &[(&str, &str)] = &[
     ("none", ""),
 ];
 
-const ROWS: [Row; 12] = [
+const ROWS: &[Row] = &[
     Row {
         name: "a missing name is told",
         set: 0,
@@ -218,9 +218,13 @@ fn assert_row<R: Abort + Threads + Wait + Sync>(
     Ok(())
 }
 
+fn rows() -> &'static [Row] {
+    ROWS
+}
+
 #[test]
 fn each_text_where_it_is_due(rt: HostRuntime) -> Result<(), Fail> {
-    for row in &ROWS {
+    for row in rows() {
         assert_row(&rt, rt.alloc(), row)?;
     }
     assert_eq!(&rt; tally_of([1, 0, 0, 0, 1, 0]).status(), 0);
@@ -240,8 +244,29 @@ fn options_of(set: u64) -> CheckOptions {
     }
 }
 
-// Checks a list at random with the options of a set, compares what it wrote with the plain retelling, and answers what
-// it came to. A call of the shelf may fail, so that a name cannot be read.
+// Checks the list of these files, compares what was written with the plain retelling, and answers what it came to. A
+// call of the shelf may fail, so that a name cannot be read.
+fn compare_check<R: Abort + Threads + Wait + Sync>(
+    rt: &R,
+    alloc: Global,
+    seed: u64,
+    rng: &mut Rng,
+    files: &[File],
+    options: &CheckOptions,
+) -> Result<Result<Tally, RunFault>, Fail> {
+    let lists = strings(alloc, &["l"])?;
+    let calls_before = rng.calls_before(50);
+    let mut shelf = RecordedFiles::new(alloc, files, 64, calls_before);
+    let mut out = PieceSink::new(alloc, rng.piece(), u64::MAX);
+    let mut err = PieceSink::new(alloc, rng.piece(), u64::MAX);
+    let answer = check_into(rt, alloc, &mut shelf, &lists, &mut out, &mut err, options);
+    let answers = shelf.answers.as_slice();
+    let report = check_report(rt, alloc, options, &lists, answers)?;
+    compare(rt, seed, answer, &report, &out, &err);
+    Ok(answer)
+}
+
+// Checks a list at random with the options of a set.
 fn check_at_random<R: Abort + Threads + Wait + Sync>(
     rt: &R,
     alloc: Global,
@@ -252,17 +277,7 @@ fn check_at_random<R: Abort + Threads + Wait + Sync>(
     let mut files = files_at_random(alloc, &mut rng)?;
     let list = list_at_random(alloc, &mut rng, "l", files.as_slice())?;
     files.insert(0, list)?;
-    let options = options_of(set);
-    let lists = [String::from_str(alloc, "l")?];
-    let calls_before = rng.calls_before(50);
-    let mut shelf = RecordedFiles::new(alloc, files.as_slice(), 64, calls_before);
-    let mut out = PieceSink::new(alloc, rng.piece(), u64::MAX);
-    let mut err = PieceSink::new(alloc, rng.piece(), u64::MAX);
-    let answer = check_into(rt, alloc, &mut shelf, &lists, &mut out, &mut err, &options);
-    let answers = shelf.answers.as_slice();
-    let report = check_report(rt, alloc, &options, &lists, answers)?;
-    compare(rt, seed, answer, &report, &out, &err);
-    Ok(answer)
+    compare_check(rt, alloc, seed, &mut rng, &files, &options_of(set))
 }
 
 #[test]

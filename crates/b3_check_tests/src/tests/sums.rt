@@ -71,18 +71,33 @@ const FORMS: [(Form, &str, &[u8], &str); 10] = [
     ),
 ];
 
+fn forms() -> &'static [(Form, &'static str, &'static [u8], &'static str)] {
+    &FORMS
+}
+
+// Sums an empty file of this name in a form.
+fn assert_form<R: AllocGlobal + Abort + Threads + Wait + Sync>(
+    rt: &R,
+    form: Form,
+    name: &str,
+    text: &[u8],
+    complaint: &str,
+) -> Result<(), Fail> {
+    let mut asked = options(1, 0);
+    asked.form = form;
+    let ended = sum_files(rt, rt.alloc(), &[(name, b"")], &[name], &asked)?;
+    let counts = match complaint.is_empty() {
+        true => tally(1, 0, 0),
+        false => tally(0, 1, 0),
+    };
+    ended.assert(rt, name, Ok(counts), text, complaint.as_bytes());
+    Ok(())
+}
+
 #[test]
 fn names_in_each_form(rt: HostRuntime) -> Result<(), Fail> {
-    let alloc = rt.alloc();
-    for (form, name, text, complaint) in &FORMS {
-        let mut asked = options(1, 0);
-        asked.form = *form;
-        let ended = sum_files(&rt, alloc, &[(*name, b"")], &[*name], &asked)?;
-        let counts = match complaint.is_empty() {
-            true => tally(1, 0, 0),
-            false => tally(0, 1, 0),
-        };
-        ended.assert(&rt, name, Ok(counts), text, complaint.as_bytes());
+    for (form, name, text, complaint) in forms() {
+        assert_form(&rt, *form, *name, *text, *complaint)?;
     }
     Ok(())
 }
