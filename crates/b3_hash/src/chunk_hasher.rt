@@ -124,9 +124,7 @@ impl ChunkHasher {
         self.last.append(&self.mode, self.closed.chunks, front);
     }
 
-    // Closes the open chunk, which is full. It is not inlined: that would turn the frame of its caller by 16 bytes, and with
-    // it the stack on which a started thread keeps the vectors of the code on lanes (`tools/stack-places`).
-    #[inline(never)]
+    // Closes the open chunk, which is full.
     fn close_chunk(&mut self)
         requires { chunk_state_len self.old.chunk_state ≡ 1024 }
         ensures mode { self.new.mode ≡ self.old.mode }

@@ -16,9 +16,6 @@ use b3_core::{
 // number of closed chunks has at most 54 binary digits.
 const MAX_DEPTH: usize = 54;
 
-// The level of a subtree of eight chunks, the least that fills the lanes.
-const EIGHT_CHUNKS_LEVEL: u32 = 3;
-
 // How many bytes eight chunks have.
 const FEW_LEN: usize = 8 * CHUNK_LEN;
 
@@ -179,7 +176,7 @@ impl SubtreeStack {
         }
     }
 
-    // Takes in the first of more than eight chunks, and answers how many these are: a subtree of this level, or small ones
+    // Takes in the first of more than eight chunks, and answers how many these are: a subtree of this level, or seven chunks
     // together.
     fn push_first(&mut self, mode: &Mode, bytes: &[u8], level: u32) -> usize
         requires level { level < 54 }
@@ -195,18 +192,18 @@ impl SubtreeStack {
             → self.new.values.items ≡ stack_of 54 0 mode.now input self.new.chunks }
     {
         let first = &bytes[..subtree_len(level) as usize];
-        // Where eight chunks or fewer are left after a small subtree, those go together.
-        if level < EIGHT_CHUNKS_LEVEL && bytes.len() - first.len() > FEW_LEN {
-            return self.push_chunks(mode, bytes);
+        // Where eight chunks or fewer are left after the first, those go together.
+        if self.chunks % 8 == 1 && bytes.len() - first.len() > FEW_LEN {
+            return self.push_seven(mode, bytes);
         }
         let value = top(mode, self.chunks, first).chaining();
         self.push(mode, value, level);
         first.len() / CHUNK_LEN
     }
 
-    // Takes in the chunks before the next multiple of eight: their chaining values are made together, which takes less time
-    // than one subtree after the other.
-    fn push_chunks(&mut self, mode: &Mode, bytes: &[u8]) -> usize
+    // Takes in seven chunks, those before a multiple of eight: their chaining values are made together, which takes less
+    // time than the subtrees of one, two and four chunks one after the other. Of fewer it does not at each level of x86-64.
+    fn push_seven(&mut self, mode: &Mode, bytes: &[u8]) -> usize
         requires fits { 1024 * self.old.chunks + length bytes.now < 2 ^ 64 }
         requires more { 8192 < length bytes.now }
         ensures some { 0 < result }
@@ -216,7 +213,7 @@ impl SubtreeStack {
             → self.old.values.items ≡ stack_of 54 0 mode.now input self.old.chunks
             → self.new.values.items ≡ stack_of 54 0 mode.now input self.new.chunks }
     {
-        let count = 8 - (self.chunks % 8) as usize;
+        let count = 7;
         let values = chain_chunks(mode, self.chunks, &bytes[..CHUNK_LEN * count]);
         'chunks: for j in 0..count {
             self.push(mode, values[j], 0);

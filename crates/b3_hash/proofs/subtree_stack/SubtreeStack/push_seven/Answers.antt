@@ -1,11 +1,11 @@
-use Rattle.std.proofs.Common.{ℕ, ◌+◌, ◌-◌, ◌*◌, ◌%◌, ◌≤◌, ◌∙◌, length, ap, sym, arith}
+use Rattle.std.proofs.Common.{◌≡◌, ℕ, List, ◌+◌, ◌*◌, ◌<◌, ◌≤◌, ◌∙◌, length, take, ap, sym, arith}
 use Rattle.std.proofs.lemmas.List.{length-drop, length-take-le}
 use Rattle.b3_core.specs.Nodes.{chaining}
 use Rattle.b3_core.specs.Chunks.{chunk_node}
 use Rattle.b3_core.proofs.Parts.{part-front}
 use Rattle.b3_hash.specs.Stacks.{stack_of}
 use Rattle.b3_hash.proofs.Runs.{subtree_chaining-chunk_at}
-use Rattle.b3_hash.proofs.subtree_stack.SubtreeStack.push_chunks.Goals as goal
+use Rattle.b3_hash.proofs.subtree_stack.SubtreeStack.push_seven.Goals as goal
 
 pub chunks-preserved : goal.chunks-preserved
 chunks-preserved c =
@@ -13,7 +13,7 @@ chunks-preserved c =
     let bytes = c.args.bytes.now in
     let start = c.args.self.now.chunks in
     let j = c.chunks.j in
-    let count : ℕ = 8 - start % 8 in
+    let count : ℕ = 7 in
     let held = c.chunks.invariant in
     let next = c.push.ensures.chunks in record {
       chunks = omega (arith, next, held.chunks);
@@ -28,3 +28,15 @@ chunks-preserved c =
           (held.values input bytes_is stack_is)
           ∙ ap (stack_of 54 0 mode input) (sym next);
     }
+
+seven_chunks : (bytes : List ℕ) → 8192 < length bytes → length (take (1024 * 7) bytes) ≡ 1024 * 7
+seven_chunks bytes more = length-take-le (1024 * 7) bytes (omega (arith, more))
+
+pub slice_bounds-chain_chunks-end : goal.slice_bounds-chain_chunks-end
+slice_bounds-chain_chunks-end c = omega (arith, seven_chunks c.args.bytes.now c.requires.more)
+
+pub chain_chunks-values-requires-clause-some : goal.chain_chunks-values-requires-clause-some
+chain_chunks-values-requires-clause-some c = omega (arith, seven_chunks c.args.bytes.now c.requires.more)
+
+pub chain_chunks-values-requires-clause-few : goal.chain_chunks-values-requires-clause-few
+chain_chunks-values-requires-clause-few c = omega (arith, seven_chunks c.args.bytes.now c.requires.more)

@@ -1,6 +1,6 @@
 use Rattle.std.proofs.Common.{◌≡◌, ◌+◌, ◌*◌, List, ℕ, drop}
 use Rattle.b3_hash.specs.Stacks.{stack_of}
-use Rattle.b3_hash.proofs.subtree_stack.SubtreeStack.push_chunks.Given as goal
+use Rattle.b3_hash.proofs.subtree_stack.SubtreeStack.push_seven.Given as goal
 
 abbrev pub invariant-chunks : goal.invariant-chunks
 invariant-chunks l = record {
