@@ -12,9 +12,15 @@ from bench_page import INSTALLED, ON_AVX2, ORIGINAL, ORIGINAL_ON_AVX2, Row
 from original import original_code, original_parts
 
 TOOLS = Path(__file__).resolve().parent
-# The ratios that are wanted to the original on AVX2, by the number of bytes that the library hashes.
-LENGTHS = {"library: 64 bytes": (64, 1.3), "library: 1 KiB": (1 << 10, 1.3), "library: 16 KiB": (1 << 14, 1.0),
-           "library: 1 MiB": (1 << 20, 1.0)}
+MESSAGES = {"16 bytes": 16, "64 bytes": 64, "100 bytes": 100, "1 KiB": 1 << 10, "16 KiB": 1 << 14, "1 MiB": 1 << 20}
+STREAM = 20_000
+PIECES = (1, 16, 64, 100, 1_000)
+# For each row of the library the lengths of a message and of the pieces in which it is given. tools/library/speed.c has
+# the same ones.
+WORKS = {**{f"library: {name}": (length, length) for name, length in MESSAGES.items()},
+         **{f"library: {STREAM:,} bytes by {piece:,}": (STREAM, piece) for piece in PIECES}}
+# The ratio that is wanted of each to the original on AVX2.
+WANTED = 1.0
 # Starts of the timing program, each with many turns: a machine can be slow for longer than one start takes.
 STARTS = 10
 
@@ -79,23 +85,24 @@ def speed_words(folder):
 
 
 def least_times(words, programs):
-    """The least times of all starts in nanoseconds, ours and the peer's, by the peer's name and the length. A peer of
-    which a start failed is left out. The peers take turns."""
+    """The least times of all starts in nanoseconds, ours and the peer's, by the peer's name and the lengths of a
+    message and of its pieces. A peer of which a start failed is left out. The peers take turns."""
     least = {}
     for _ in range(STARTS):
         for name, program in programs.items():
             run = subprocess.run(words, env=program.environment, stdout=subprocess.PIPE, text=True)
-            for length, *times in map(str.split, run.stdout.splitlines() if run.returncode == 0 else []):
-                before = least.get((name, int(length)), (float("inf"),) * 2)
-                least[name, int(length)] = tuple(min(pair) for pair in zip(before, map(float, times)))
+            for length, piece, *times in map(str.split, run.stdout.splitlines() if run.returncode == 0 else []):
+                work = name, int(length), int(piece)
+                before = least.get(work, (float("inf"),) * 2)
+                least[work] = tuple(min(pair) for pair in zip(before, map(float, times)))
     return least
 
 
 def library_rows(folder, hiding, only):
     """The rows of the library, in nanoseconds, whose names contain a word; none if the library or the peers are not
     there."""
-    lengths = {name: row for name, row in LENGTHS.items() if only in name}
-    words = speed_words(folder) if lengths else None
+    works = {name: work for name, work in WORKS.items() if only in name}
+    words = speed_words(folder) if works else None
     if words is None:
         return []
     print(f"{'work':30} {'beside':20} {'ours, ns':>10} {'that, ns':>10} {'ratio':>7} {'wanted':>7}")
@@ -103,5 +110,5 @@ def library_rows(folder, hiding, only):
     if hiding:
         programs[ORIGINAL_ON_AVX2] = Program(words[0], hiding)
     least = least_times(words, programs)
-    return [Row(name, peer, *least.get((peer, length), (None, None)), wanted if peer == ORIGINAL_ON_AVX2 else None)
-            for name, (length, wanted) in lengths.items() for peer in programs]
+    return [Row(name, peer, *least.get((peer, *lengths), (None, None)), WANTED if peer == ORIGINAL_ON_AVX2 else None)
+            for name, lengths in works.items() for peer in programs]

@@ -79,6 +79,17 @@ def input_in_the_middle(faults):
                 given.seek(place)
                 faults.row(name, words, out, stdin=given)
                 faults.compare(f"{name}: where it is left", (None, None, given.tell()), ("", "", length))
+    content = 5 * PATTERN
+    Path("spread").write_bytes(content)
+    for place in (0, (1 << 20) + 1):
+        line = f"{digest(content[place:])}  -\n"
+        for threads in ("2", "4", "64"):
+            name = f"input that is a file of {len(content)} bytes, from {place} on, by {threads} threads"
+            with open("spread", "rb", buffering=0) as given:
+                given.seek(place)
+                faults.row(name, ["--num-threads", threads], line, stdin=given)
+                rest = subprocess.run(["cat"], stdin=given, stdout=subprocess.PIPE).stdout
+                faults.compare(f"{name}: what is left", (rest, None, given.tell()), ("", "", len(content)))
     with open("placed", "rb", buffering=0) as given:
         os.remove("placed")
         faults.row("input that is a file that was removed", [], f"{digest(PATTERN)}  -\n", stdin=given)
