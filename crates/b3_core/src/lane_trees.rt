@@ -58,6 +58,8 @@ fn eight_subtrees(mode: &Mode, first: u64, bytes: &[u8], level: u32) -> [u32x8; 
     }
     let half = bytes.len() / 2;
     let (front, back) = bytes.split_at(half);
+    // Before the calls: then no value has to be stored over them, and the frame is a multiple of 32 bytes, which keeps the
+    // place of the vectors on the stack of a started thread (`tools/stack-places`).
     let next = first + (half / CHUNK_LEN) as u64;
     let left = eight_subtrees(mode, first, front, level - 1);
     let right = eight_subtrees(mode, next, back, level - 1);

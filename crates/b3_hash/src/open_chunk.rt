@@ -104,7 +104,7 @@ impl OpenChunk {
         self.block_len = end;
     }
 
-    // The same of bytes that fill the block: none, where it is full.
+    // The same of bytes that fill the block: none, where it is full, since a copy of none costs as much as one of a few.
     fn fill_block(&mut self, piece: &[u8])
         requires block { self.old.block_len + length piece.now ≡ 64 }
         requires chunk { 64 * self.old.closed_blocks + 64 ≤ 1024 }

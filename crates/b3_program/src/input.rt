@@ -17,8 +17,8 @@ const MOST_DUE: u64 = 1 << 20;
 /// The plain file that an input is, opened anew, and the input.
 ///
 /// The input tells none of its bytes at an offset, so these are the file's. Its position moves by reads alone, so
-/// it is read as far as the file is. The system lets in one such read at a time: so that calls do not wait for one
-/// another, one of them reads for all.
+/// it is read as far as the file is. The system lets in one such read at a time: so that calls need not wait for one
+/// another, one of them reads for all, while little is due.
 #[derive(Drop)]
 pub struct InputFile<I, P> {
     pub input: I,
@@ -27,7 +27,7 @@ pub struct InputFile<I, P> {
     pub start: u64,
     // whether some of it was read at an offset, so that the input stands elsewhere
     pub is_ahead: AtomicBool,
-    // how many bytes the position is still to move; while it is not 0, a call moves it
+    // how many bytes the position is still to move: while it is not 0, a call moves it, or one failed to
     pub due: AtomicU64,
     // whether the input gave all that was read in order
     pub is_in_step: bool,
@@ -85,13 +85,13 @@ impl<I: Input<File = P>, P: DiskFile> InputFile<I, P> {
         Some(seam + in_back)
     }
 
-    // Moves the position on by so many bytes, at least one, or leaves them to the call that moves it. Nothing where a
-    // read fails.
+    // Moves the position on by so many bytes, at least one, or leaves them to the call that moves it. A call with a
+    // short buffer moves it for itself alone: through that it would take long for all. Nothing where a read fails.
     fn move_on(&self, count: u64, buffer: &mut [u8]) -> Option<()>
         requires buffer { 0 < length buffer.old }
         ensures len { length buffer.new ≡ length buffer.old }
     {
-        if self.due.load(Ordering::SeqCst) >= MOST_DUE {
+        if buffer.len() < FRONT_LEN || self.due.load(Ordering::SeqCst) >= MOST_DUE {
             return pass_over(self.input, count, buffer);
         }
         if self.due.fetch_add(count, Ordering::SeqCst) > 0 {

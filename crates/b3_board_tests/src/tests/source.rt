@@ -193,7 +193,7 @@ fn each_length_of_a_region_after_another(rt: HostRuntime) -> Result<(), Fail> {
     assert_lengths(&rt, rt.alloc(), 8 * 1024, &Yielding)
 }
 
-// Bytes that are not there are not made up, and a buffer that is shorter than a span takes none.
+// Bytes that are not there are not made up, and a buffer that is shorter than a span and than a piece takes none.
 #[test]
 fn too_few_bytes(rt: HostRuntime) -> Result<(), Fail> {
     let input = pattern(rt.alloc(), 9 * 1024)?;
@@ -215,6 +215,23 @@ fn too_few_bytes(rt: HostRuntime) -> Result<(), Fail> {
         &OpenGate,
     )?;
     assert!(&rt; found.is_none());
+    let input = pattern(rt.alloc(), MEBIBYTE)?;
+    let source = Silent::good(input.as_slice(), 0);
+    for (len, is_taken) in [(PIECE_LEN - 1, false), (PIECE_LEN, true)] {
+        let mut buffer = vec![in rt.alloc(); 0u8; len]?;
+        let found = hash_part(
+            &rt,
+            rt.alloc(),
+            &source,
+            0,
+            MEBIBYTE as u64,
+            1024,
+            1,
+            &mut buffer,
+            &OpenGate,
+        )?;
+        assert_eq!(&rt; found.is_some(), is_taken);
+    }
     Ok(())
 }
 

@@ -285,3 +285,39 @@ fn no_call_waits_for_the_one_that_moves_the_position(rt: HostRuntime) -> Result<
     assert_eq!(rt; position, (PARTS * PART_LEN) as u64);
     Ok(())
 }
+
+// Nothing is left to a call with a short buffer: what is read beside it is moved while it is held.
+#[test]
+fn a_short_read_moves_the_position_for_itself(rt: HostRuntime) -> Result<(), Fail> {
+    let content = counted(rt.alloc(), PART_LEN as u64)?;
+    let moves = Moves::holding();
+    let input = Endless {
+        file: content.as_slice(),
+        moves: &moves,
+    };
+    let mut shelf = FileShelf::new(MemoryDisk::new(&[]), input);
+    assert!(rt; shelf.begin("-").is_ok());
+    let mut parts = Vec::new(rt.alloc());
+    for len in [1, PART_LEN] {
+        parts.push(vec![in rt.alloc(); 0u8; len]?)?;
+    }
+    for_each_mut(
+        &rt,
+        parts.as_mut_slice(),
+        2,
+        &|place, part: &mut Vec<u8>| {
+            if place == 1 {
+                moves.await_first();
+            }
+            let _given = shelf.read_at(0, part.as_mut_slice());
+            if place == 1 {
+                moves.let_go();
+            }
+        },
+    );
+    let position_then = moves.position_then.load(Ordering::SeqCst);
+    assert_eq!(rt; position_then, PART_LEN as u64);
+    let position = moves.position.load(Ordering::SeqCst);
+    assert_eq!(rt; position, PART_LEN as u64 + 1);
+    Ok(())
+}
