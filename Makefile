@@ -16,7 +16,8 @@
 # make lib-test     calls the library from C, C++ and Python programs; it needs a C compiler
 # make bench        times the program beside the installed b3sum, the code on lanes beside plain word code, runs of
 #                   workers, and the library beside the original C code, where that is installed; writes the tables of
-#                   README.md and docs/BENCH.md, and docs/bench.svg; ends with 1 if a row is slower than is wanted
+#                   README.md and docs/BENCH.md, and docs/bench.svg; ends with 1 if a row is slower than is wanted,
+#                   or where a started thread keeps the vectors of the code on lanes across lines of the cache
 # make imports      compares the names that the program imports from the C library with a list
 # make audit        compares docs/AUDIT.md with the files that it names, and with what the laws and contracts cite; and
 #                   completions/ with the table of options
@@ -122,6 +123,7 @@ soak: b3sum
 
 # With the library if there is a C compiler, which its rows need.
 bench: b3sum $(if $(shell command -v $(CC) 2>/dev/null),lib)
+	tools/stack-places
 	tools/workers $(FLAGS)
 	tools/bench --write $(FLAGS)
 

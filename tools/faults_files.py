@@ -21,14 +21,10 @@ LARGE = "8c5cb1562ffe2af8b4c8c7f0b4395c518a027f6d97c4bfc950f91eaa77e00e90"
 # A length over 32 bits; and the digest of that many bytes, all 0, by another implementation.
 HUGE_LEN = (5 << 30) + 1
 HUGE = "f7b8b344dd849ce2b499c285a4865025866ba33ff78204c332412a9347b1d6c6"
-# A file whose spans are two pieces changes between these lengths; and the digests of the bytes, all 0, of each length from
-# one to the other by steps of 64 KiB, which a reading in order may find, by another implementation.
-LONG_SPANS = (1 << 28) + (1 << 18), (1 << 28) + (1 << 19)
-LONG_DIGESTS = ("a18329feca9f606ab3fbbdf384b20787453394b9c8d04ebd63c42f709c4a87f8",
-                "5972935f6463d3b19a03242ae84d6f5b61f071fdaf0e16518a5b8265b37fffdf",
-                "1d6d56b015c1fb22b093ec6d822f98c6dd445374dd17ee42c8f6c46e1d5e5f1b",
-                "718fb19df83031f8a7a45ba971f81d9f81dbc0b9e4dc5ecdd04166c1f5be84c1",
-                "ef9c8a1bad8417361af158bc543abb221f327e76f115b0077e4bfc461b99dc30")
+# Two lengths, a page apart, of a file whose spans are two pieces; and the digests of that many bytes, all 0, by another
+# implementation.
+LONG_SPANS = {(1 << 28) + (1 << 18): "a18329feca9f606ab3fbbdf384b20787453394b9c8d04ebd63c42f709c4a87f8",
+              (1 << 28) + (1 << 18) + 4096: "6add509c1b1fd6c2fff40a4eb80519b2ce2f417177dd2a7b30bd2fb6f11f4dad"}
 PIECE = 1 << 18
 # Lengths around which the program works differently. A pipe is read 64 KiB at a time. In a single file that is longer
 # than a piece all workers read pieces: two, three and more of them.
@@ -211,7 +207,7 @@ def long_changing_files(faults):
         os.truncate("changing", max(LONG_SPANS))
         with meanwhile(change):
             faults.row(f"a long file that changes, {threads} threads, turn {turn}", ["--num-threads", threads, "changing"],
-                       lines_of_one(LONG_DIGESTS, "changing", 1))
+                       lines_of_one(LONG_SPANS.values(), "changing", 1))
 
 
 def removed_files(faults, content, expected):

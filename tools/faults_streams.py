@@ -88,8 +88,9 @@ def input_in_the_middle(faults):
             with open("spread", "rb", buffering=0) as given:
                 given.seek(place)
                 faults.row(name, ["--num-threads", threads], line, stdin=given)
+                left_at = given.tell()
                 rest = subprocess.run(["cat"], stdin=given, stdout=subprocess.PIPE).stdout
-                faults.compare(f"{name}: what is left", (rest, None, given.tell()), ("", "", len(content)))
+                faults.compare(f"{name}: what is left", (rest, None, left_at), ("", "", len(content)))
     with open("placed", "rb", buffering=0) as given:
         os.remove("placed")
         faults.row("input that is a file that was removed", [], f"{digest(PATTERN)}  -\n", stdin=given)
