@@ -128,6 +128,17 @@ impl Shelf for TreeShelf<'_> {
         }
     }
 
+    fn lacks(&self, name: &str) -> Option<NoContent> {
+        match self.content_of(name) {
+            Some(_) => None,
+            None => Some(NoContent::Missing),
+        }
+    }
+
+    fn count_failures(&mut self, count: u64) {
+        self.failures += count;
+    }
+
     fn len_hint(&self) -> u64 {
         self.rest.len() as u64
     }

@@ -20,8 +20,8 @@ pub mod CheckLemmas
 pub mod RightLemmas
 -- What is right and counts no failure: all names have their lines, all lines are verified.
 pub mod VerifiedLemmas
--- What is known of items before the run comes to them.
-mod PrefetchLemmas
+-- Items that are taken, found and done.
+pub mod CrewLemmas
 -- Parts of a content that is read at offsets: what the next region adds to those before it.
 pub mod PartLemmas
 -- What sums and checks of known files say: their reports, and that the lines of files read back.

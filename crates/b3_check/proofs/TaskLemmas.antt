@@ -28,7 +28,7 @@ use Rattle.b3_check.specs.Scripts.Script.{Done, Say}
 use Rattle.b3_check.specs.Sums.{failed_report, is_bad_name, name_report, name_script, names_script, operand_script, shows_name}
 use Rattle.b3_check.specs.Tallies.{no_tally, one_failed, one_missing, tally_sum}
 use Rattle.b3_check.specs.Tasks.{counted, Found, Task, name_asked, name_task, operand_task, report_of, request_report, task_script, tasks_script}
-use Rattle.b3_check.specs.Prefetch.{HasReport}
+use Rattle.b3_check.specs.Crews.{SoFar}
 use Rattle.b3_check.specs.Tasks.Task.{Tell, Find}
 use Rattle.b3_check.proofs.OwingLemmas.{owing_done, owing_stopped, owing_then, owing_written}
 use Rattle.b3_check.proofs.RunLemmas.{stopped_answered, stopped_at_once, stopped_early, stopped_said, went_nowhere}
@@ -42,25 +42,10 @@ found_told a message =
     record { answers = []; agree = tt; complete = tt; went = went_nowhere a; is = sym (joined-nothing (report_of message)) }
 
 -- what is known of a name
-agrees_known : (told : Option Contents) (sure : Bool) (name content : List ℕ) → HasContent told name content
+pub agrees_known : (told : Option Contents) (sure : Bool) (name content : List ℕ) → HasContent told name content
     → AgreesWith told sure Hashed name (Ok content)
 agrees_known None sure name content has = tt
 agrees_known (Some contents) sure name content has = inl (sym (ap (answer_of Hashed) has))
-
-pub found_known : {range : OutputRange} {message : Message} (a : IoState) (request : Request)
-    → HasReport a.told range request message
-    → Found (digest_script range (name_asked request) (request_report request)) a a message
-found_known {range} {message} a request known = record {
-  answers = Ok known.content ∷ [];
-  agree = (agrees_known a.told a.sure (name_asked request) known.content known.has, tt);
-  complete = tt;
-  went = record {
-    heard = record { told = refl; sure = refl; failures = omega arith };
-    out = (went_nowhere a).out;
-    err = (went_nowhere a).err;
-  };
-  is = known.is ∙ sym (joined-nothing _);
-}
 
 -- there is no memory for what is to be said
 pub stopped_unsaid : {limits : Limits} {a b : IoState} {fault : RunFault} {range : OutputRange} {name : List ℕ}
@@ -91,14 +76,6 @@ counted-request_report (Name form name) digest = counted-name_report form name.n
 counted-request_report (Line options line) digest = counted-verdict_tally options (verdict_on line.digest digest)
 
 -- ---- tasks so far
-
--- the tasks so far are run, of whose texts one is still to be written, and each is counted at most twice
-pub record SoFar (range : OutputRange) (all left : List Task) (a b : IoState) (owing : List ℕ) (tally : Tally) : Type 0 where
-  pub done : List Task
-  pub parts : all ≡ done ++ left
-  pub ran : RanOwing (tasks_script range done) a b [] owing tally
-  pub twice : counted tally ≤ 2 * length done
-  pub failures : b.failures ≤ a.failures + length done
 
 pub so_far_none : {range : OutputRange} {all : List Task} {a : IoState} {m : Tally} → m ≡ no_tally
     → SoFar range all all a a [] m

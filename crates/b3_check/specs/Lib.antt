@@ -15,6 +15,6 @@ pub mod Tasks
 pub mod Reading
 pub mod MemoryShelves
 pub mod MemorySinks
-pub mod Prefetch
+pub mod Crews
 pub mod Parts
 pub mod Laws

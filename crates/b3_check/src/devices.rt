@@ -5,6 +5,8 @@ ghost use Rattle.b3_check.specs.Contents.{input_name};
 ghost use Rattle.b3_check.specs.Owing.{SaysOwing, on_out};
 ghost use Rattle.b3_check.specs.Reading.{Answered, Asks, Hashes, key_answer};
 ghost use Rattle.b3_check.specs.Scripts.Kind.{Key, Listed};
+ghost use Rattle.b3_check.specs.Devices.{CanCount};
+ghost use Rattle.b3_check.specs.Runs.{io_state};
 ghost use Rattle.b3_check.specs.Tasks.{Says, report_of};
 
 use crate::digester::Digester;
@@ -120,14 +122,14 @@ impl<'s, 'o, 'e, S: Shelf + Send + Sync, O: Sink, E: Sink> Devices<'s, 'o, 'e, S
             (io_state_of S.Shelf O.Sink E.Sink self.new) lines.old.items lines.new.items result }
         ensures loans { loans self.new ≡ loans self.old }
     {
-        lines.extend_from_slice(message.out.as_slice())?;
-        if is_more_soon && message.err.is_empty() && self.out.may_wait() {
-            return Ok(());
-        }
-        write_all(self.out, lines.as_slice())?;
-        lines.clear();
-        write_all(self.err, message.err.as_slice())?;
-        Ok(())
+        say_after(
+            &*self.shelf,
+            self.out,
+            self.err,
+            lines,
+            message,
+            is_more_soon,
+        )
     }
 
     /// Writes these lines to `out`.
@@ -140,4 +142,27 @@ impl<'s, 'o, 'e, S: Shelf + Send + Sync, O: Sink, E: Sink> Devices<'s, 'o, 'e, S
         write_all(self.out, lines)?;
         Ok(())
     }
+}
+
+/// As `Devices::say_after`, while others may look at the shelf.
+pub fn say_after<S: Shelf, O: Sink, E: Sink>(
+    _shelf: &S,
+    out: &mut O,
+    err: &mut E,
+    lines: &mut Vec<u8>,
+    message: &Message,
+    is_more_soon: bool,
+) -> Result<(), RunFault>
+    requires { CanCount (io_state S.Shelf O.Sink E.Sink _shelf.now out.old err.old) 0 }
+    ensures { SaysOwing (report_of message.now) (io_state S.Shelf O.Sink E.Sink _shelf.now out.old err.old)
+        (io_state S.Shelf O.Sink E.Sink _shelf.now out.new err.new) lines.old.items lines.new.items result }
+{
+    lines.extend_from_slice(message.out.as_slice())?;
+    if is_more_soon && message.err.is_empty() && out.may_wait() {
+        return Ok(());
+    }
+    write_all(out, lines.as_slice())?;
+    lines.clear();
+    write_all(err, message.err.as_slice())?;
+    Ok(())
 }

@@ -3,6 +3,7 @@
 ghost use Rattle.std.specs.Prelude.{◌≡◌, ℕ, Bool, List, [], ◌∷◌, true, false, map, IfOk, IfNone, IfSome, MatchOption};
 ghost use Rattle.b3_check.specs.Sums.{is_bad_name, shows_name};
 ghost use Rattle.b3_check.specs.Operands.{operands_left};
+ghost use Rattle.b3_check.specs.declared.items.Item.{Item};
 ghost use Rattle.b3_check.specs.Tasks.{IsFit, IsFitItem, Task, bytes_of, len_of, name_asked, operand_task, report_of, request_report, task_of};
 
 use crate::message::Message;
@@ -57,8 +58,26 @@ impl Request<'_> {
     }
 }
 
+/// An item, for as long as what it names.
+pub trait AnyItem: Drop {
+    /// The item.
+    ghost item: { Self → Item };
+
+    /// The item.
+    fn get(&self) -> &Item<'_>
+        ensures { result.now ≡ item self.now };
+}
+
+impl<'a> AnyItem for Item<'a> {
+    ghost item = { λ item. item };
+
+    fn get(&self) -> &Item<'_> {
+        self
+    }
+}
+
 /// Items, one after the other.
-pub trait WorkItems<'a> {
+pub trait WorkItems<I: AnyItem> {
     /// What is left to do.
     ghost left: { Self → List Task };
 
@@ -66,12 +85,12 @@ pub trait WorkItems<'a> {
     ghost fits: { Self → ℕ → Bool };
 
     /// The next item.
-    fn next(&mut self) -> Result<Option<Item<'a>>, AllocError>
+    fn next(&mut self) -> Result<Option<I>, AllocError>
         ensures next { IfOk result (λ next. MatchOption next (left self.old ≡ [])
-            (λ item. left self.old ≡ task_of item ∷ left self.new)) }
+            (λ item. left self.old ≡ task_of (I.item item) ∷ left self.new)) }
         ensures over { IfOk result (λ next. IfNone next (left self.new ≡ [])) }
         ensures fit { IfOk result (λ next. IfSome next (λ item.
-            (len : ℕ) → fits self.old len ≡ true → IsFitItem len item)) }
+            (len : ℕ) → fits self.old len ≡ true → IsFitItem len (I.item item))) }
         ensures still_fits { (len : ℕ) → fits self.new len ≡ fits self.old len };
 
     /// How many items are left, of which nothing is promised.
@@ -86,7 +105,7 @@ pub struct Names<'a> {
     pub operands: Operands<'a>,
 }
 
-impl<'a> WorkItems<'a> for Names<'a> {
+impl<'a> WorkItems<Item<'a>> for Names<'a> {
     ghost left = { λ work. map (operand_task work.form) (operands_left work.operands) };
 
     ghost fits = { λ _ _. true };

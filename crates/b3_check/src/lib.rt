@@ -2,12 +2,16 @@
 //! what it writes to its two sinks.
 #![tactic(auto)]
 
+mod ahead;
 mod at_offsets;
 mod buffer;
 mod check;
+mod crew;
+mod crew_run;
 mod devices;
 mod digester;
 mod engine;
+mod entry;
 mod fault;
 mod in_order;
 mod items;
@@ -23,8 +27,9 @@ mod operands;
 mod options;
 mod output_range;
 mod pool;
-mod prefetch;
 mod prefix;
+mod run_input;
+mod saying;
 mod shelf;
 mod sink;
 mod sum;

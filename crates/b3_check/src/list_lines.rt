@@ -35,10 +35,10 @@ impl<'t> ListLines<'t> {
         text: &'t [u8],
     ) -> ListLines<'t>
         requires { first + length text.now ≤ 2 ^ 32 }
-        ensures lines { ⟦<ListLines<'t> as WorkItems<'t>>⟧.left result
+        ensures lines { ⟦<ListLines<'t> as WorkItems<Item<'t>>>⟧.left result
             ≡ line_tasks options name.now first (lines_of text.now) }
-        ensures few { length (⟦<ListLines<'t> as WorkItems<'t>>⟧.left result) ≤ length text.now }
-        ensures fits { ⟦<ListLines<'t> as WorkItems<'t>>⟧.fits result 32 ≡ true }
+        ensures few { length (⟦<ListLines<'t> as WorkItems<Item<'t>>>⟧.left result) ≤ length text.now }
+        ensures fits { ⟦<ListLines<'t> as WorkItems<Item<'t>>>⟧.fits result 32 ≡ true }
     {
         ListLines {
             alloc,
@@ -51,7 +51,7 @@ impl<'t> ListLines<'t> {
     }
 }
 
-impl<'t> WorkItems<'t> for ListLines<'t> {
+impl<'t> WorkItems<Item<'t>> for ListLines<'t> {
     ghost left = { λ work. line_tasks work.options work.name.now work.number
         (map (line_at work.text.now) work.lines) };
 

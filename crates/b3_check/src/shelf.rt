@@ -85,6 +85,21 @@ pub trait Shelf {
         false
     }
 
+    /// Why a name gives no content, where that is soon known without waiting for anything. It changes nothing, so that
+    /// many threads may ask at once.
+    fn lacks(&self, _name: &str) -> Option<NoContent>
+        ensures { IfSome result (LacksContent (told self.now) (is_sure self.now) _name.now) }
+    {
+        None
+    }
+
+    /// Counts as failures so many names of which `lacks` said why.
+    fn count_failures(&mut self, count: u64)
+        requires { failures self.old + count < 2 ^ 64 }
+        ensures count { failures self.new ≡ failures self.old + count }
+        ensures told { told self.new ≡ told self.old }
+        ensures still_sure { is_sure self.new ≡ is_sure self.old };
+
     /// Fills the buffer with what is left of the file, from `offset` on, as far as there is any, and answers how
     /// many bytes that are; nothing where it cannot. The file stays where it is.
     fn read_at(&self, _offset: u64, _buffer: &mut [u8]) -> Option<usize>

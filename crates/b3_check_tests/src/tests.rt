@@ -3,10 +3,11 @@
 mod at_once;
 mod checks;
 mod contents;
+mod crew;
+mod crew_files;
 mod ended;
 mod failing;
 mod faults;
-mod gathered;
 mod lengths;
 mod lettered_files;
 mod memory;

@@ -61,24 +61,32 @@ impl Shelf for FailingShelf {
         }
         self.files.read(buffer)
     }
+
+    fn count_failures(&mut self, count: u64) {
+        self.faults += count;
+    }
 }
 
 /// A file of any name, which gives a byte a read for ever.
 #[derive(Drop)]
 pub struct EndlessFile {
     is_begun: bool,
+    failures: u64,
 }
 
 impl EndlessFile {
     pub fn new() -> EndlessFile
         ensures { ⟦<EndlessFile as Shelf>⟧.failures result ≡ 0 }
     {
-        EndlessFile { is_begun: false }
+        EndlessFile {
+            is_begun: false,
+            failures: 0,
+        }
     }
 }
 
 impl Shelf for EndlessFile {
-    ghost failures = { λ _. 0 };
+    ghost failures = { λ shelf. shelf.failures };
 
     ghost told = { λ _. None };
 
@@ -99,5 +107,9 @@ impl Shelf for EndlessFile {
         }
         buffer[0] = b'x';
         Ok(1)
+    }
+
+    fn count_failures(&mut self, count: u64) {
+        self.failures += count;
     }
 }

@@ -16,7 +16,7 @@ pub enum Access {
     InOrder,
     /// At places too.
     AtPlaces,
-    /// Whole too, beside one another, where they are short.
+    /// Whole too, beside one another, where they are short. It is soon known which are missing.
     Beside,
 }
 
@@ -187,6 +187,17 @@ impl Shelf for LetteredFiles<'_> {
             Some(content) if len <= max_len => hasher.update(content).is_ok(),
             _ => false,
         }
+    }
+
+    fn lacks(&self, name: &str) -> Option<NoContent> {
+        if self.access == Access::Beside && name.starts_with("m") {
+            return Some(NoContent::Missing);
+        }
+        None
+    }
+
+    fn count_failures(&mut self, count: u64) {
+        self.failures += count;
     }
 
     // Two bytes are asked for to see where the file ends.

@@ -1,5 +1,5 @@
 // Many names in no order: what is written of them is the same by any number of workers, one after the other and beside
-// one another, and each name that is not hashed beside others is begun once, in its turn.
+// one another, and each name that is not hashed beside others, nor missing there, is begun once, in its turn.
 
 use crate::tests::contents::pattern;
 use crate::tests::ended::{check, strings, sum, sum_into};
@@ -53,7 +53,7 @@ struct Texts {
     list: Vec<u8>,
     verdicts: String,
     warnings: String,
-    // the names that are begun where those that are there are not
+    // the names that are begun where others are hashed beside one another, or missing
     begun: String,
     ok: u64,
     failed: u64,
@@ -89,8 +89,10 @@ impl Texts {
             self.complaints.push_str(complaint.as_str())?;
             self.verdicts.push_str(name)?;
             self.verdicts.push_str(": FAILED (cannot read)\n")?;
-            self.begun.push_str(name)?;
-            self.begun.push_str("\n")?;
+            if name.starts_with("f") {
+                self.begun.push_str(name)?;
+                self.begun.push_str("\n")?;
+            }
             self.failed = self.failed.saturating_add(1);
         }
         let number = self.ok.saturating_add(self.failed).saturating_mul(2);

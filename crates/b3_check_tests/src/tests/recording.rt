@@ -190,6 +190,10 @@ impl Shelf for RecordedFiles<'_> {
         }
         Ok(count)
     }
+
+    fn count_failures(&mut self, count: u64) {
+        self.failures += count;
+    }
 }
 
 /// Takes pieces of one length at most. Once, after so many writes, a write fails.
