@@ -1,7 +1,7 @@
 -- Buffers that are filled read by read.
 use Rattle.std.proofs.Common.{◌≡◌, ℕ, ◌+◌, ◌≤◌, List, [], ◌++◌, length, take, drop, sym, ◌∙◌, ap, append_assoc, length-append, length-drop, arith}
 use Rattle.std.proofs.Math.Seq.{take-append_seam}
-use Rattle.std.proofs.lemmas.List.{drop-drop, drop-take, length-take-le, take-append-drop, take-take, take_all}
+use Rattle.std.proofs.lemmas.List.{drop_all, drop-drop, drop-take, length-take-le, take-append-drop, take-take, take_all}
 use Rattle.b3_check.specs.Contents.{Gives}
 use Rattle.b3_check.proofs.ReadLemmas.{take-read}
 
@@ -45,6 +45,13 @@ filled_all content bytes offset filled n within so_far ended =
     let short : length (drop offset content) ≤ filled = omega (arith, none, length-drop filled (drop offset content)) in
     so_far ∙ take_all filled (drop offset content) short
     ∙ sym (take_all n (drop offset content) (omega (arith, short, within)))
+
+-- it ends there, as it tells
+pub filled_to_end : (content bytes : List ℕ) (offset filled n end : ℕ) → filled ≤ n
+    → bytes ≡ take filled (drop offset content) → end ≡ length content → end ≡ offset + filled
+    → bytes ≡ take n (drop offset content)
+filled_to_end content bytes offset filled n end within so_far told is =
+    filled_all content bytes offset filled n within so_far (drop_all (offset + filled) content (omega (arith, told, is)))
 
 -- two contents of which the same is left: what is left after so many bytes more
 pub later_same : (x y : List ℕ) (a b n : ℕ) → drop a x ≡ drop b y → drop (a + n) x ≡ drop (b + n) y

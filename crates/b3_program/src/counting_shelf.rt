@@ -60,7 +60,7 @@ impl<'p, S: Shelf, C: Clock, W: Write> CountingShelf<'p, S, C, W> {
         }
     }
 
-    // Counts a name that was read whole. The clock is not read after each short file, as that would take time.
+    // Counts a name that is done before its turn. The clock is not read after each short file, as that would take time.
     fn add_whole(&self, name: &str, len: u64) {
         let before = self.progress.add_whole(len);
         let is_time_read = len >= LONG_LEN || before % SHORT_FILES == 0;
@@ -104,14 +104,26 @@ impl<S: Shelf, C: Clock, W: Write> Shelf for CountingShelf<'_, S, C, W> {
 
     fn hash_whole(&self, name: &str, max_len: u64, buffer: &mut [u8], hasher: &mut Hasher) -> bool {
         let is_hashed = self.inner.hash_whole(name, max_len, buffer, hasher);
-        if self.progress.is_shown() {
-            if is_hashed {
-                self.add_whole(name, hasher.len());
-            } else {
-                self.progress.add_waiting(self.inner.len_hint_of(name));
-            }
+        if is_hashed && self.progress.is_shown() {
+            self.add_whole(name, hasher.len());
         }
         is_hashed
+    }
+
+    // Asked after a name was not hashed: one of which it is not known why gives its content in its turn.
+    fn lacks(&self, name: &str) -> Option<NoContent> {
+        let lacking = self.inner.lacks(name);
+        if self.progress.is_shown() {
+            match lacking {
+                Some(_) => self.add_whole(name, 0),
+                None => self.progress.add_waiting(self.inner.len_hint_of(name)),
+            }
+        }
+        lacking
+    }
+
+    fn count_failures(&mut self, count: u64) {
+        self.inner.count_failures(count);
     }
 
     fn read_at(&self, offset: u64, buffer: &mut [u8]) -> Option<usize> {

@@ -37,8 +37,21 @@ pub trait DiskFile: Stream {
         ensures bound { ReadsAtMost result buffer.new }
         ensures bytes { IsTrue Self.tells → ReadsAt (Self.content self.now) offset result buffer.new };
 
-    /// The length of a plain file, as it tells it: of which nothing is promised. None of any other.
-    fn plain_len(&self) -> Option<u64>;
+    /// The length of a plain file, as it tells it: of which nothing is promised, but where files tell their bytes. None of
+    /// any other.
+    fn plain_len(&self) -> Option<u64>
+        ensures { IsTrue Self.tells → IfSome result (λ len. len ≡ length (Self.content self.now)) };
+}
+
+/// What stands under a name.
+#[derive(Clone, Copy, Debug, PartialEq, Eq)]
+pub enum FileKind {
+    /// A plain file, and the length that it tells, of which nothing is promised.
+    Plain(u64),
+    /// A folder.
+    Folder,
+    /// Anything else, as a FIFO, a terminal or a device: these may wait to be opened.
+    Other,
 }
 
 /// Named files, which are opened for reading.
@@ -48,7 +61,7 @@ pub trait Disk {
     /// The content of each name, where files tell theirs; nothing for a name that is not there.
     ghost contents: { Self → Contents };
 
-    /// The errors by which opening a name may fail.
+    /// The errors by which a name may fail to be opened, or to tell its kind.
     ghost fails_by: { Self → List ℕ → ErrorKind → Type 0 };
 
     /// Opens the file of this name, at its beginning.
@@ -60,8 +73,11 @@ pub trait Disk {
             → IfErr result (λ error. IsOfMissing (error_kind error) → contents self.now name.now ≡ None) }
         ensures error { IfErr result (λ error. fails_by self.now name.now (error_kind error)) };
 
-    /// The length of a plain file of this name, as it tells it: of which nothing is promised. None of any other.
-    fn plain_len(&self, name: &str) -> Option<u64>;
+    /// What stands under this name, behind its links. It is not opened, so that nothing is waited for.
+    fn kind(&self, name: &str) -> io::Result<FileKind>
+        ensures missing { IsTrue Self.File.tells
+            → IfErr result (λ error. IsOfMissing (error_kind error) → contents self.now name.now ≡ None) }
+        ensures error { IfErr result (λ error. fails_by self.now name.now (error_kind error)) };
 }
 
 /// A stream that stands for standard input. It may be a plain file, which can be opened anew.

@@ -7,8 +7,8 @@ ghost use Rattle.b3_program.specs.Disks.{IsOfMissing, IsRefusedBy};
 ghost use Rattle.b3_program.specs.Files.{contents_with, rest_of, told_if};
 ghost use Rattle.b3_program.specs.Sources.{file_side, input_side, is_input, is_open, source_left, source_position, source_tells};
 
-use crate::disk::{Disk, DiskFile, Input};
-use crate::retrying::fill_at;
+use crate::disk::{Disk, DiskFile, FileKind, Input};
+use crate::retrying::{fill_at, read_at_retrying};
 use crate::source::Source;
 use b3_check::{CannotRead, INPUT_NAME, NoContent, Shelf};
 use b3_hash::Hasher;
@@ -101,13 +101,29 @@ fn no_content_for(error: &io::Error) -> NoContent
     }
 }
 
-// Whether a file tells a length above 0, and of at most so many bytes.
-fn is_short_file(plain_len: Option<u64>, max_len: u64) -> bool {
-    plain_len.is_some_and(|len| (1..=max_len).contains(&len))
+// Whether a name is one of a plain file that tells at most so many bytes.
+fn is_short_file(kind: io::Result<FileKind>, max_len: u64) -> bool {
+    matches!(kind, Ok(FileKind::Plain(len)) if len <= max_len)
+}
+
+// Whether the first read of a file gives no byte.
+fn is_empty<F: DiskFile>(file: &F, buffer: &mut [u8]) -> bool
+    requires buffer { 0 < length buffer.old }
+    ensures len { length buffer.new ≡ length buffer.old }
+    ensures content { IsTrue F.tells → IsTrue result → F.content file.now ≡ [] }
+{
+    matches!(read_at_retrying(file, 0, buffer), Ok(0))
 }
 
 // Has a file of at most so many bytes hashed, piece by piece, and answers whether it has.
-fn hash_file<F: DiskFile>(file: &F, max_len: u64, buffer: &mut [u8], hasher: &mut Hasher) -> bool
+fn hash_file<F: DiskFile>(
+    file: &F,
+    len: u64,
+    max_len: u64,
+    buffer: &mut [u8],
+    hasher: &mut Hasher,
+) -> bool
+    requires told { IsTrue F.tells → len ≡ length (F.content file.now) }
     requires buffer { 0 < length buffer.old }
     requires fresh { StandsFor hasher.old [] }
     ensures len { length buffer.new ≡ length buffer.old }
@@ -117,7 +133,7 @@ fn hash_file<F: DiskFile>(file: &F, max_len: u64, buffer: &mut [u8], hasher: &mu
 {
     let mut offset = 0u64;
     for _ in 0..=max_len / buffer.len() as u64 {
-        let Some(count) = fill_at(file, offset, buffer) else {
+        let Some(count) = fill_at(file, offset, Some(len), buffer) else {
             return false;
         };
         let Ok(()) = hasher.update(&buffer[..count]) else {
@@ -211,16 +227,51 @@ impl<D: Disk, I: Input> Shelf for FileShelf<D, I> {
         Ok(count)
     }
 
-    // Of a plain file that tells its length, and of no other: those of `/proc` tell 0. The name is asked first, since a
-    // FIFO would wait to be opened; then the open file, which may be another by then, and would wait to be read.
+    // Of a plain file, and of no other. The name is asked first, since a FIFO would wait to be opened; then the open file,
+    // which may be another by then, and would wait to be read. One that tells no length is taken where it has no byte:
+    // those of `/proc` tell 0, and may have many, of which one buffer is read here at most.
     fn hash_whole(&self, name: &str, max_len: u64, buffer: &mut [u8], hasher: &mut Hasher) -> bool {
-        if name == INPUT_NAME || !is_short_file(self.disk.plain_len(name), max_len) {
+        if name == INPUT_NAME || !is_short_file(self.disk.kind(name), max_len) {
             return false;
         }
         let Ok(file) = self.disk.open(name) else {
             return false;
         };
-        is_short_file(file.plain_len(), max_len) && hash_file(&file, max_len, buffer, hasher)
+        let Some(len) = file.plain_len() else {
+            return false;
+        };
+        if len == 0 {
+            return is_empty(&file, buffer);
+        }
+        len <= max_len && hash_file(&file, len, max_len, buffer, hasher)
+    }
+
+    // A plain file alone is opened for it, as any other may wait for that. A folder opens, and its first read fails.
+    fn lacks(&self, name: &str) -> Option<NoContent>
+        ensures input { name.now ≡ input_name → result ≡ None }
+        ensures missing { IsTrue D.File.tells → result ≡ Some Missing
+            → contents_with (D.contents self.now.disk) (rest_of I.content I.position self.now.input) name.now ≡ None }
+        ensures refused { result ≡ Some Missing → IsRefusedBy (D.fails_by self.now.disk name.now) Missing }
+    {
+        if name == INPUT_NAME {
+            return None;
+        }
+        match self.disk.kind(name) {
+            Ok(FileKind::Plain(_)) => {
+                let error = self.disk.open(name).err()?;
+                Some(no_content_for(&error))
+            }
+            Ok(FileKind::Folder) => Some(NoContent::CannotRead),
+            Ok(FileKind::Other) => None,
+            Err(error) => match no_content_for(&error) {
+                NoContent::Missing => Some(NoContent::Missing),
+                NoContent::CannotRead => None,
+            },
+        }
+    }
+
+    fn count_failures(&mut self, count: u64) {
+        self.failures += count;
     }
 
     // All who read hold the one file that is open: another file under its name changes nothing.
@@ -236,6 +287,9 @@ impl<D: Disk, I: Input> Shelf for FileShelf<D, I> {
         if name == INPUT_NAME {
             return 0;
         }
-        self.disk.plain_len(name).unwrap_or(0)
+        let Ok(FileKind::Plain(len)) = self.disk.kind(name) else {
+            return 0;
+        };
+        len
     }
 }

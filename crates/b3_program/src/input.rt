@@ -76,9 +76,9 @@ impl<I: Input<File = P>, P: DiskFile> InputFile<I, P> {
         let seam = len.min(FRONT_LEN);
         let (front, back) = buffer.split_at_mut(seam);
         // The position moves through pages that this or another call has just read.
-        let in_back = fill_at(&self.file, start.checked_add(seam as u64)?, back)?;
+        let in_back = fill_at(&self.file, start.checked_add(seam as u64)?, None, back)?;
         self.move_on(len as u64, front)?;
-        let in_front = fill_at(&self.file, start, front)?;
+        let in_front = fill_at(&self.file, start, None, front)?;
         if in_front < seam {
             return Some(in_front);
         }

@@ -26,7 +26,7 @@ mod words;
 
 pub use clearing_sink::ClearingSink;
 pub use counting_shelf::CountingShelf;
-pub use disk::{Disk, DiskFile, Input, Stream};
+pub use disk::{Disk, DiskFile, FileKind, Input, Stream};
 pub use files::FileShelf;
 pub use memory_disk::{MemoryDisk, MemoryFile, NamedFile};
 pub use outputs::OutputSink;

@@ -2,7 +2,7 @@
 
 ghost use Rattle.std.specs.Prelude.{◌≡◌};
 
-use crate::disk::{Disk, DiskFile, Input, Stream};
+use crate::disk::{Disk, DiskFile, FileKind, Input, Stream};
 use crate::lookup::{copy_from, find};
 use std::io::{self, ErrorKind};
 
@@ -95,8 +95,10 @@ impl<'a> Disk for MemoryDisk<'a> {
         }
     }
 
-    fn plain_len(&self, name: &str) -> Option<u64> {
-        let content = find(self.files, name)?;
-        Some(content.len() as u64)
+    fn kind(&self, name: &str) -> io::Result<FileKind> {
+        match find(self.files, name) {
+            Some(content) => Ok(FileKind::Plain(content.len() as u64)),
+            None => Err(io::Error::from(ErrorKind::NotFound)),
+        }
     }
 }

@@ -4,8 +4,8 @@ use crate::progress_text::{Counts, progress_line};
 use std::alloc::Global;
 use std::io::Write;
 use std::rt::Clock;
-use std::sync::Mutex;
 use std::sync::atomic::{AtomicBool, AtomicU64, Ordering};
+use std::sync::{Mutex, MutexGuard, Wait};
 use std::time::Instant;
 
 /// How many milliseconds there are at least between two lines.
@@ -16,9 +16,11 @@ const ERASE_LINE: &str = "\r\x1b[K";
 
 /// A terminal, on which one line may stand that is to go away.
 #[derive(Drop)]
-struct Terminal<W> {
+pub(crate) struct Terminal<W> {
     writer: W,
     has_line: bool,
+    // whether what an output wrote last is the beginning of a line
+    is_in_output: bool,
 }
 
 impl<W: Write> Terminal<W> {
@@ -35,6 +37,13 @@ impl<W: Write> Terminal<W> {
         }
     }
 
+    /// An output wrote these bytes. A line stands only before or behind whole lines of an output.
+    pub(crate) fn note_output(&mut self, bytes: &[u8]) {
+        if let Some(last) = bytes.last() {
+            self.is_in_output = *last != b'\n';
+        }
+    }
+
     // What the terminal does not take is no fault of the run.
     fn write(&mut self, text: &str) {
         let _ = self.writer.write_all(text.as_bytes());
@@ -43,8 +52,8 @@ impl<W: Write> Terminal<W> {
 
 /// What was done of a run, and a terminal on which a line says so.
 ///
-/// Threads count beside one another, and none waits: where it is time for a line and no other thread writes one, the
-/// thread that counts does.
+/// Threads count beside one another, and none waits: where it is time for a line and no other thread writes, the thread
+/// that counts writes it. An output waits for a thread that writes a line, and none writes one meanwhile.
 #[derive(Drop)]
 pub struct Progress<C, W> {
     alloc: Global,
@@ -59,7 +68,7 @@ pub struct Progress<C, W> {
     // the names that were begun in their turn, and the bytes that were read of them
     begun_names: AtomicU64,
     begun_bytes: AtomicU64,
-    // those that were read whole before their turn
+    // those that were done before their turn
     whole_names: AtomicU64,
     whole_bytes: AtomicU64,
     // those that wait for their turn, and the lengths that they tell
@@ -90,6 +99,7 @@ impl<C: Clock, W: Write> Progress<C, W> {
             terminal: Mutex::new(Terminal {
                 writer,
                 has_line: false,
+                is_in_output: false,
             }),
         }
     }
@@ -134,7 +144,7 @@ impl<C: Clock, W: Write> Progress<C, W> {
         self.begun_bytes.fetch_add(count, Ordering::SeqCst);
     }
 
-    /// Counts a name that was read whole before its turn, and answers how many there were before it.
+    /// Counts a name that is done before its turn, and answers how many there were before it.
     pub(crate) fn add_whole(&self, len: u64) -> u64 {
         self.whole_bytes.fetch_add(len, Ordering::SeqCst);
         self.whole_names.fetch_add(1, Ordering::SeqCst)
@@ -151,16 +161,11 @@ impl<C: Clock, W: Write> Progress<C, W> {
         self.waiting_names.load(Ordering::SeqCst) > 0
     }
 
-    /// The turn of the first name that waits has come, which tells this length by now.
+    /// The turn of the first name that waits has come, which tells this length by now. Other names may come to wait
+    /// meanwhile.
     pub(crate) fn end_wait(&self, len: u64) {
-        let names = self.waiting_names.load(Ordering::SeqCst).saturating_sub(1);
-        let bytes = self
-            .waiting_bytes
-            .load(Ordering::SeqCst)
-            .saturating_sub(len);
-        self.waiting_names.store(names, Ordering::SeqCst);
-        self.waiting_bytes
-            .store(if names == 0 { 0 } else { bytes }, Ordering::SeqCst);
+        subtract(&self.waiting_names, 1);
+        subtract(&self.waiting_bytes, len);
     }
 
     /// Whether it is time for a line.
@@ -171,8 +176,8 @@ impl<C: Clock, W: Write> Progress<C, W> {
         }
     }
 
-    /// Shows a line with this name, if it is time for one and no other thread writes one. So many bytes are left of the
-    /// name in hand; none where it was read whole.
+    /// Shows a line with this name, if it is time for one, no other thread writes, and no line of an output is begun. So
+    /// many bytes are left of the name in hand; none where it is done.
     pub(crate) fn show(&self, name: &str, left: Option<u64>) {
         let Some(now) = self.millis() else {
             return;
@@ -181,7 +186,7 @@ impl<C: Clock, W: Write> Progress<C, W> {
             return;
         };
         // Another thread may have written one meanwhile.
-        if now < self.due.load(Ordering::SeqCst) {
+        if terminal.is_in_output || now < self.due.load(Ordering::SeqCst) {
             return;
         }
         self.due
@@ -194,13 +199,19 @@ impl<C: Clock, W: Write> Progress<C, W> {
     }
 
     /// Takes the line away, if one stands there.
-    pub fn clear(&self) {
+    pub fn clear<R: Wait>(&self, rt: &R) {
+        let _cleared = self.cleared(rt);
+    }
+
+    /// The terminal without a line, for an output to write to it: none is shown until this is dropped. Where no lines are
+    /// shown it is none, and costs no lock.
+    pub(crate) fn cleared<R: Wait>(&self, rt: &R) -> Option<MutexGuard<'_, Terminal<W>>> {
         if !self.is_shown() {
-            return;
+            return None;
         }
-        if let Some(mut terminal) = self.terminal.try_lock() {
-            terminal.clear();
-        }
+        let mut terminal = self.terminal.lock(rt);
+        terminal.clear();
+        Some(terminal)
     }
 
     fn counts(&self, now: u64, left: Option<u64>) -> Counts {
@@ -231,4 +242,11 @@ impl<C: Clock, W: Write> Progress<C, W> {
         let millis = elapsed.as_secs().saturating_mul(1_000);
         Some(millis.saturating_add(u64::from(elapsed.subsec_millis())))
     }
+}
+
+// Takes so much off a count, down to 0, in one step.
+fn subtract(count: &AtomicU64, less: u64) {
+    let _ = count.fetch_update(Ordering::SeqCst, Ordering::SeqCst, |now| {
+        Some(now.saturating_sub(less))
+    });
 }

@@ -3,7 +3,7 @@
 // No contract can say what a system's files hold, so no clause sees the bodies here: each only forwards, and the
 // comment beside it says what it must do. Every other line of the crate is proved over any disk.
 
-use crate::disk::{Disk, DiskFile, Input, Stream};
+use crate::disk::{Disk, DiskFile, FileKind, Input, Stream};
 use crate::retrying::fill;
 use std::alloc::AllocError;
 use std::fs::{File, OpenFile};
@@ -76,10 +76,16 @@ where
         Ok(RealFile { inner })
     }
 
-    // The length that the file of this name tells, behind its links, of a plain file alone.
-    fn plain_len(&self, name: &str) -> Option<u64> {
-        let metadata = self.files.metadata(name).ok()?;
-        metadata.is_file().then_some(metadata.len())
+    // What this name tells of itself, behind its links; the error is the system's.
+    fn kind(&self, name: &str) -> io::Result<FileKind> {
+        let metadata = self.files.metadata(name)?;
+        Ok(if metadata.is_file() {
+            FileKind::Plain(metadata.len())
+        } else if metadata.is_dir() {
+            FileKind::Folder
+        } else {
+            FileKind::Other
+        })
     }
 }
 
@@ -154,9 +160,9 @@ where
     // tells no length, as those of `/proc` do, and where the offset is not shown.
     fn reopen(&self) -> Option<(RealFile<F::File>, u64)> {
         let disk = RealDisk::new(self.files);
-        if disk.plain_len(self.paths.file)? == 0 {
+        let Ok(FileKind::Plain(1..)) = disk.kind(self.paths.file) else {
             return None;
-        }
+        };
         let start = next_offset(&mut disk.open(self.paths.position).ok()?)?;
         Some((disk.open(self.paths.file).ok()?, start))
     }

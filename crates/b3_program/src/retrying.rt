@@ -63,8 +63,15 @@ pub fn read_at_retrying<F: DiskFile>(file: &F, offset: u64, buffer: &mut [u8]) -
 }
 
 /// Fills the buffer with a file's bytes from an offset on, and answers how many there are: fewer than the buffer takes
-/// only where the file ends. Nothing where a read fails.
-pub fn fill_at<F: DiskFile>(file: &F, offset: u64, buffer: &mut [u8]) -> Option<usize>
+/// only where the file ends. Nothing where a read fails. Where it is told at which offset the file ends, reads that stop
+/// there, though they could give more, show that it does; else one read more does, which gives no byte.
+pub fn fill_at<F: DiskFile>(
+    file: &F,
+    offset: u64,
+    end: Option<u64>,
+    buffer: &mut [u8],
+) -> Option<usize>
+    requires end { IsTrue F.tells → IfSome end (λ end. end ≡ length (F.content file.now)) }
     ensures len { length buffer.new ≡ length buffer.old }
     ensures within { IfSome result (λ n. n ≤ length buffer.old) }
     ensures bytes { IsTrue F.tells
@@ -73,6 +80,9 @@ pub fn fill_at<F: DiskFile>(file: &F, offset: u64, buffer: &mut [u8]) -> Option<
     let mut filled = 0;
     while filled < buffer.len() {
         let start = offset.checked_add(filled as u64)?;
+        if filled > 0 && end == Some(start) {
+            return Some(filled);
+        }
         let Ok(count) = read_at_retrying(file, start, &mut buffer[filled..]) else {
             return None;
         };

@@ -79,7 +79,7 @@ impl<T: DiskFile, I: Input<File = P>, P: DiskFile + Drop> Source<T, I, P> {
     {
         let start = consumed.checked_add(offset)?;
         match self {
-            Source::Opened(file) => fill_at(file, start, buffer),
+            Source::Opened(file) => fill_at(file, start, None, buffer),
             Source::Reopened(file) => file.fill_at(start, buffer),
             Source::Nothing | Source::Input(_) => None,
         }

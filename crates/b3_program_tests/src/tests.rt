@@ -10,4 +10,5 @@ mod positions;
 mod progress;
 mod real_disk;
 mod steps;
+mod terminal;
 mod troubles;

@@ -70,12 +70,12 @@ where
     let progress = Progress::new(alloc, rt, err, is_terminal);
     let mut shelf = CountingShelf::new(alloc, FileShelf::new(disk, input), &progress);
     let out = OutputSink::new(out).gathering(is_gathering);
-    let mut out = ClearingSink::new(out, !is_gathering, &progress);
-    let mut err = ClearingSink::new(OutputSink::new(err), is_terminal, &progress);
+    let mut out = ClearingSink::new(rt, out, !is_gathering, &progress);
+    let mut err = ClearingSink::new(rt, OutputSink::new(err), is_terminal, &progress);
     let status = run_call(
         rt, alloc, arguments, &mut shelf, &mut out, &mut err, gate, &progress,
     );
-    progress.clear();
+    progress.clear(rt);
     Called {
         status,
         out: out.into_inner().into_writer(),

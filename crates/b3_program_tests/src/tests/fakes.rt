@@ -97,6 +97,9 @@ pub fn rest_from(content: &[u8], offset: u64) -> &[u8] {
     &content[(offset as usize).min(content.len())..]
 }
 
+/// A name that is no plain file and no folder, and that stops a test that opens it.
+pub const FIFO: &str = "fifo";
+
 /// What the files of a file system have in common.
 #[derive(Drop)]
 pub struct System<'a> {
@@ -105,6 +108,8 @@ pub struct System<'a> {
     pub closed: &'a str,
     /// Whether a folder stands under each name by the time that it is opened.
     pub is_replaced: bool,
+    /// Whether each file tells that it has no byte.
+    pub tells_none: bool,
     pub reads: Reads,
     open: AtomicU64,
     overlapping: AtomicU64,
@@ -116,6 +121,7 @@ impl<'a> System<'a> {
             files,
             closed: "closed",
             is_replaced: false,
+            tells_none: false,
             reads,
             open: AtomicU64::new(0),
             overlapping: AtomicU64::new(0),
@@ -130,9 +136,26 @@ impl<'a> System<'a> {
         }
     }
 
+    /// One in which each file tells that it has no byte.
+    pub fn untold(files: &'a [NamedFile<'a>]) -> System<'a> {
+        System {
+            tells_none: true,
+            ..System::new(files, Reads::plain())
+        }
+    }
+
     /// How many files were opened while another was.
     pub fn overlapping(&self) -> u64 {
         self.overlapping.load(Ordering::SeqCst)
+    }
+
+    // What a file of this content tells.
+    fn metadata_of(&self, content: &[u8]) -> Metadata {
+        Metadata::of_file(if self.tells_none {
+            0
+        } else {
+            content.len() as u64
+        })
     }
 
     // The content of the file of this name, to the character.
@@ -216,7 +239,7 @@ impl<R: Abort> OpenFile for FakeFile<'_, R> {
         Ok(if self.system.is_replaced {
             Metadata::of_dir()
         } else {
-            Metadata::of_file(self.content.len() as u64)
+            self.system.metadata_of(self.content)
         })
     }
 
@@ -270,6 +293,7 @@ impl<'a, R: Abort> Files for FakeFiles<'a, R> {
                 && !how.asks_create_new(),
             "{path} is not opened for reading alone"
         );
+        assert!(self.rt; path != FIFO, "it would wait");
         if path == self.system.closed {
             return Err(io::Error::from(ErrorKind::PermissionDenied));
         }
@@ -290,7 +314,10 @@ impl<'a, R: Abort> Files for FakeFiles<'a, R> {
     }
 
     fn metadata(&self, path: &str) -> io::Result<Metadata> {
-        Ok(Metadata::of_file(self.system.content(path)?.len() as u64))
+        if path == FIFO {
+            return Ok(Metadata::of_symlink(0));
+        }
+        Ok(self.system.metadata_of(self.system.content(path)?))
     }
 
     fn symlink_metadata(&self, _path: &str) -> io::Result<Metadata> {

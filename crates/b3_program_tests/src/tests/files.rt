@@ -1,7 +1,7 @@
 // The files of a shelf of real files.
 
 use super::fakes::{Reads, System};
-use super::steps::Step::{Begin, HashWhole, LenHint, Read, ReadAt, Rest};
+use super::steps::Step::{Begin, HashWhole, Lacks, LenHint, Read, ReadAt, Rest};
 use super::steps::{assert_files, assert_real, digest_of};
 use b3_check::{CannotRead, NoContent};
 use b3_core::Mode;
@@ -108,6 +108,28 @@ fn a_plain_file_alone_is_looked_at(rt: HostRuntime) {
     );
 }
 
+// Why names give no content. The input, what may wait, a file that can be read and a name that is too long give none.
+#[test]
+fn why_a_real_name_gives_no_content(rt: HostRuntime) -> Result<(), AllocError> {
+    let mut long = String::new(rt.alloc());
+    for _ in 0..5_000usize {
+        long.push_str("x")?;
+    }
+    assert_real(
+        &rt,
+        &[
+            Lacks("-", None),
+            Lacks("a file that is not there", Some(NoContent::Missing)),
+            Lacks("/proc/self/exe/x", Some(NoContent::Missing)),
+            Lacks("/", Some(NoContent::CannotRead)),
+            Lacks("/dev/null", None),
+            Lacks(OWN_PROGRAM, None),
+            Lacks(long.as_str(), None),
+        ],
+    );
+    Ok(())
+}
+
 // The bytes of the program that runs, read in order.
 pub fn own_program<R: Files + AllocGlobal>(rt: &R) -> Result<Vec<u8>, Fail> {
     let mut file = File::open(rt, OWN_PROGRAM)?;
@@ -173,6 +195,10 @@ fn a_plain_file_alone_tells_its_length(rt: HostRuntime) {
         ],
     );
 }
+
+// The digest of no bytes, by the official vectors.
+pub const EMPTY: &[u8; 32] = b"\xaf\x13\x49\xb9\xf5\xf9\xa1\xa6\xa0\x40\x4d\xea\x36\xdc\xc9\x49\
+      \x9b\xcb\x25\xc9\xad\xc1\x12\xb7\xcc\x9a\x93\xca\xe4\x1f\x32\x62";
 
 // The digest of 1,025 bytes, 0 to 250 over and over, by the installed b3sum.
 pub const DIGEST: &[u8; 32] = b"\xd0\x02\x78\xae\x47\xeb\x27\xb3\x4f\xae\xcf\x67\xb4\xfe\x26\x3f\

@@ -1,14 +1,40 @@
 // The sum of one name over files in memory.
 
+use super::files::EMPTY;
+use super::steps::Asked;
+use super::steps::Step::{HashWhole, Lacks};
 use crate::in_memory::sum_one;
-use b3_check::MemorySink;
-use b3_program::NamedFile;
+use b3_check::{MemorySink, NoContent};
+use b3_program::{FileShelf, MemoryDisk, MemoryFile, NamedFile};
 use std::test::Fail;
 
-const FILES: [NamedFile<'static>; 1] = [NamedFile {
-    name: "abc",
-    content: b"abc",
-}];
+const FILES: [NamedFile<'static>; 2] = [
+    NamedFile {
+        name: "abc",
+        content: b"abc",
+    },
+    NamedFile {
+        name: "empty",
+        content: b"",
+    },
+];
+
+#[test]
+fn what_is_known_before_the_turn_of_a_name(rt: HostRuntime) {
+    let shelf = FileShelf::new(MemoryDisk::new(&FILES), MemoryFile::new(b""));
+    Asked::new(shelf).assert(
+        &rt,
+        &[
+            HashWhole("empty", 0, Some(EMPTY)),
+            HashWhole("abc", 2, None),
+            Lacks("abc", None),
+            HashWhole("gone", u64::MAX, None),
+            Lacks("gone", Some(NoContent::Missing)),
+            HashWhole("-", u64::MAX, None),
+            Lacks("-", None),
+        ],
+    );
+}
 
 #[test]
 fn a_name_has_its_line(rt: HostRuntime) -> Result<(), Fail> {

@@ -2,7 +2,7 @@
 
 use super::files::FOUR;
 use super::steps::{Asked, Step};
-use b3_check::{MemoryShelf, Sink};
+use b3_check::{MemoryShelf, NoContent, Sink};
 use b3_program::{
     ClearingSink, CountingShelf, Counts, FileShelf, MemoryDisk, MemoryFile, NamedFile, OutputSink,
     Progress, progress_line,
@@ -156,7 +156,7 @@ fn a_line_comes_and_goes(rt: HostRuntime) -> Result<(), Fail> {
     files.put("a", b"bytes")?;
     let mut shelf = Asked::new(CountingShelf::new(alloc, files, &progress));
     let output = OutputSink::new(Screen { written: &written });
-    let mut sink = ClearingSink::new(output, true, &progress);
+    let mut sink = ClearingSink::new(&rt, output, true, &progress);
     // Nothing is shown before it is asked for.
     shelf.assert(&rt, &[Step::Begin("a", Ok(())), Step::Read(2, Ok(b"by"))]);
     progress.show_if(true);
@@ -173,7 +173,7 @@ fn a_line_comes_and_goes(rt: HostRuntime) -> Result<(), Fail> {
     assert_eq!(rt; sink.write(b"said\n"), Ok(5));
     assert_eq!(rt; sink.write(b"more\n"), Ok(5));
     shelf.assert(&rt, &[Step::Read(2, Ok(b"s"))]);
-    progress.clear();
+    progress.clear(&rt);
     let due = "\r2 B of ~10 B, 20%, 6 B/s, 0:01 left, 0 of 2: a\x1b[K\
                \r\x1b[Ksaid\nmore\n\
                \r5 B of ~10 B, 50%, 6 B/s, 0:00 left, 0 of 2: a\x1b[K\
@@ -182,7 +182,8 @@ fn a_line_comes_and_goes(rt: HostRuntime) -> Result<(), Fail> {
     Ok(())
 }
 
-// A name that was read whole before its turn is done; those that are too long for that wait, and tell their lengths.
+// A name that was read whole before its turn is done, and so is one that is missing; those that are too long for that
+// wait, and tell their lengths.
 #[test]
 fn names_before_their_turn(rt: HostRuntime) -> Result<(), Fail> {
     let alloc = rt.alloc();
@@ -197,17 +198,21 @@ fn names_before_their_turn(rt: HostRuntime) -> Result<(), Fail> {
     Asked::new(CountingShelf::new(alloc, files, &progress)).assert(
         &rt,
         &[
-            Step::Expect(3),
+            Step::Expect(4),
             Step::HashWhole("a", 10, Some(FOUR)),
+            Step::HashWhole("missing", 10, None),
+            Step::Lacks("missing", Some(NoContent::Missing)),
             Step::HashWhole("b", 10, None),
+            Step::Lacks("b", None),
             Step::HashWhole("c", 2, None),
+            Step::Lacks("c", None),
             Step::Begin("b", Ok(())),
             Step::ReadAt(6, Some(b" bytes")),
             Step::ReadAt(8, Some(b"ytes")),
         ],
     );
-    let due = "\r4 B of ~12 B, 33%, 13 B/s, 0:00 left, 1 of 3: a\x1b[K\
-               \r14 B of 19 B, 73%, 18 B/s, 0:00 left, 1 of 3: b\x1b[K";
+    let due = "\r4 B of ~16 B, 25%, 13 B/s, 0:00 left, 1 of 4: a\x1b[K\
+               \r14 B of 19 B, 73%, 18 B/s, 0:00 left, 2 of 4: b\x1b[K";
     assert!(rt; written.try_borrow().is_ok_and(|seen| seen.as_str() == due));
     Ok(())
 }

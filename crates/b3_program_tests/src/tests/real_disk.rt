@@ -1,7 +1,7 @@
 // The real disk and the real input: each call forwards to the one file that it names.
 
 use super::files::{OWN_PROGRAM, own_program};
-use b3_program::{Disk, DiskFile, Input, InputPaths, RealDisk, RealInput, Stream};
+use b3_program::{Disk, DiskFile, FileKind, Input, InputPaths, RealDisk, RealInput, Stream};
 use std::alloc::{AllocError, Allocator};
 use std::fs::File;
 use std::io::{ErrorKind, Read, pipe};
@@ -31,20 +31,25 @@ fn shown<A: Allocator>(alloc: A, folder: &str, number: u64) -> Result<String<A>,
     format!(in alloc; "/proc/self/{folder}/{number}")
 }
 
-// The name is asked, and the open file: of a folder, a device and a pipe.
+// The name is asked, and the open file: of a plain file, a folder, a device and a pipe.
 #[test]
 fn a_plain_file_alone_has_a_length(rt: HostRuntime) -> Result<(), Fail> {
     let disk = RealDisk::new(&rt);
     let len = own_program(&rt)?.len() as u64;
-    assert_eq!(rt; disk.plain_len(OWN_PROGRAM), Some(len));
-    assert_eq!(rt; disk.plain_len("a file that is not there"), None);
+    assert_eq!(rt; disk.kind(OWN_PROGRAM)?, FileKind::Plain(len));
+    let missing = disk.kind("a file that is not there");
+    assert!(rt; missing.is_err_and(|error| error.kind() == ErrorKind::NotFound));
     let missing = disk.open("a file that is not there");
     assert!(rt; missing.is_err_and(|error| error.kind() == ErrorKind::NotFound));
     let (reader, _writer) = pipe(&rt)?;
     let number = u64::from(reader.as_raw_fd().unsigned_abs());
     let shown_pipe = shown(rt.alloc(), "fd", number)?;
-    for name in ["/", "/dev/null", shown_pipe.as_str()] {
-        assert_eq!(rt; disk.plain_len(name), None, "{name}");
+    for (name, kind) in [
+        ("/", FileKind::Folder),
+        ("/dev/null", FileKind::Other),
+        (shown_pipe.as_str(), FileKind::Other),
+    ] {
+        assert_eq!(rt; disk.kind(name)?, kind, "{name}");
         assert_eq!(rt; disk.open(name)?.plain_len(), None, "{name}");
     }
     Ok(())

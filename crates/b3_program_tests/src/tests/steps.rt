@@ -28,6 +28,8 @@ pub enum Step<'a> {
     LenHint(u64),
     /// The digest of a file of at most so many bytes that is hashed beside others.
     HashWhole(&'a str, u64, Option<&'a [u8; 32]>),
+    /// Why a name gives no content, where that is soon known.
+    Lacks(&'a str, Option<NoContent>),
 }
 
 /// The digest of what was hashed.
@@ -125,6 +127,7 @@ impl<S: Shelf> Asked<S> {
                     let given = digest_of_whole(&self.shelf, name, max_len);
                     assert_eq!(rt; given, digest.copied(), "{name}");
                 }
+                Step::Lacks(name, why) => assert_eq!(rt; self.shelf.lacks(name), why, "{name}"),
             }
         }
     }

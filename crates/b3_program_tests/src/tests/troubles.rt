@@ -1,9 +1,9 @@
 // A shelf of real files whose reads fail, give little, or are interrupted several times in a row.
 
-use super::fakes::{Reads, SharedInput, System};
-use super::files::{DIGEST, FOUR, counted};
+use super::fakes::{FIFO, Reads, SharedInput, System};
+use super::files::{DIGEST, EMPTY, FOUR, counted};
 use super::inputs::{INPUT_AT_3, NOT_SHOWN, SHOWN};
-use super::steps::Step::{Begin, HashWhole, Read, ReadAt};
+use super::steps::Step::{Begin, HashWhole, Lacks, Read, ReadAt};
 use super::steps::{Step, assert_files, assert_input};
 use b3_check::{CannotRead, NoContent};
 use b3_program::NamedFile;
@@ -11,7 +11,7 @@ use std::process::Abort;
 use std::sync::atomic::AtomicU64;
 use std::test::Fail;
 
-const FILES: [NamedFile<'static>; 3] = [
+const FILES: [NamedFile<'static>; 4] = [
     NamedFile {
         name: "a",
         content: b"four",
@@ -23,6 +23,10 @@ const FILES: [NamedFile<'static>; 3] = [
     NamedFile {
         name: "closed",
         content: b"not told",
+    },
+    NamedFile {
+        name: "empty",
+        content: b"",
     },
 ];
 
@@ -79,14 +83,15 @@ fn a_last_read_in_order_fails(rt: HostRuntime) {
     );
 }
 
-// What is read of a file of four bytes, at an offset and beside others, where a read fails after so many.
-fn assert_fails_after(rt: &impl Abort, before_fault: u64, is_given: bool) {
-    let content = if is_given {
+// What is read of a file of four bytes, at an offset and beside others, where a read fails after so many. Four reads give
+// the four bytes. A fifth gives the end, which is known beside others, as the file tells it.
+fn assert_fails_after(rt: &impl Abort, before_fault: u64) {
+    let content = if before_fault > 4 {
         Some(b"four".as_slice())
     } else {
         None
     };
-    let digest = if is_given { Some(FOUR) } else { None };
+    let digest = if before_fault > 3 { Some(FOUR) } else { None };
     assert_files(
         rt,
         &System::new(&FILES, Reads::failing_after(before_fault)),
@@ -99,13 +104,11 @@ fn assert_fails_after(rt: &impl Abort, before_fault: u64, is_given: bool) {
     );
 }
 
-// Five reads give the four bytes and the end.
 #[test]
 fn each_read_at_an_offset_fails(rt: HostRuntime) {
-    for before_fault in 0..5 {
-        assert_fails_after(&rt, before_fault, false);
+    for before_fault in 0..6 {
+        assert_fails_after(&rt, before_fault);
     }
-    assert_fails_after(&rt, 5, true);
 }
 
 // What is read of an input at an offset, where reads of the file that is opened anew and of the input meet with these.
@@ -246,8 +249,45 @@ fn a_file_that_may_not_be_read_is_not_missing(rt: HostRuntime) {
     let steps = [
         Begin("closed", Err(NoContent::CannotRead)),
         Begin("missing", Err(NoContent::Missing)),
+        Lacks("closed", Some(NoContent::CannotRead)),
+        Lacks("missing", Some(NoContent::Missing)),
+        Lacks("a", None),
     ];
     assert_files(&rt, &System::new(&FILES, Reads::plain()), &steps);
+}
+
+// It would wait for a writer, where others have names to hash.
+#[test]
+fn a_fifo_is_not_opened_before_its_turn(rt: HostRuntime) {
+    let steps = [HashWhole(FIFO, u64::MAX, None), Lacks(FIFO, None)];
+    assert_files(&rt, &System::new(&FILES, Reads::plain()), &steps);
+}
+
+// It is hashed where one read gives no byte; that read may be interrupted, and may fail.
+#[test]
+fn an_empty_file_is_hashed_beside_others(rt: HostRuntime) {
+    let rows = [
+        (Reads::plain(), Some(EMPTY), 1),
+        (Reads::interrupted(2), Some(EMPTY), 3),
+        (Reads::failing_after(0), None, 1),
+    ];
+    for (reads, digest, calls) in rows {
+        let system = System::new(&FILES, reads);
+        assert_files(&rt, &system, &[HashWhole("empty", 0, digest)]);
+        assert_eq!(rt; system.reads.calls(), calls);
+    }
+}
+
+// Of one that tells no byte and has some, no more than a buffer is read.
+#[test]
+fn a_file_that_tells_no_length_is_not_hashed_beside_others(rt: HostRuntime) {
+    let system = System::untold(&FILES);
+    assert_files(
+        &rt,
+        &system,
+        &[HashWhole("a", u64::MAX, None), Lacks("a", None)],
+    );
+    assert_eq!(rt; system.reads.calls(), 1);
 }
 
 // Of a file that a folder replaced after its name was asked, no byte is read: what stands under a name by the time that
