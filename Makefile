@@ -1,14 +1,17 @@
-# make              proves the program, and builds ./b3sum for this processor
+# make              proves the program, and builds ./b3sum for this processor; with CPU=x86-64-v2 for any x86-64 processor
+#                   since 2009
 # make install      installs it, its manual page and its completions for bash, zsh and fish below PREFIX, which is
 #                   /usr/local; make uninstall removes them
-# make lib          proves the hasher, and builds it as a C library, libb3.a and libb3.so, for this processor;
-#                   with CPU=x86-64-v2 for any x86-64 processor since 2009
+# make lib          proves the hasher, and builds it as a C library, libb3.a and libb3.so, for this processor or CPU
 # make install-lib  installs the library, its header and b3.pc below PREFIX
 # make check        proves what changed since its last run, and runs the tests of that
 # make test         is the gate: all proofs, the must-fail edits, all tests and the stored run
 #
 # Beside the gate, over what is built:
 # make compare      runs the program beside the installed b3sum, on the same inputs, trees and lists
+# make dist         makes a release in dist/, for users without the toolchain: an archive and Debian packages
+# make dist-test    tests that release as they get it, and that wrong ones are found out; with DEBIAN=FOLDER, in that
+#                   root of Debian too
 # make faults       runs it with full devices, closed streams, broken lists, odd names and files that change; compares
 #                   the options of its help with completions/
 # make refused      refuses each growth of memory in turn
@@ -28,7 +31,11 @@
 PREFIX = /usr/local
 DESTDIR =
 SHARE = $(DESTDIR)$(PREFIX)/share
+ZSH = $(SHARE)/zsh/site-functions
 INSTALL = install
+
+# The version is written down where the program prints it.
+VERSION := $(shell sed -n 's/.*\.version("\(.*\)").*/\1/p' crates/b3sum/src/command.rt)
 
 # The level of x86-64 to build for: the program may use its instructions and those of all levels below.
 CPU := $(if $(shell grep -m 1 -o -w avx2 /proc/cpuinfo 2>/dev/null),x86-64-v3,x86-64-v2)
@@ -44,39 +51,44 @@ SOURCES := crates.txt $(shell find crates/*/ -mindepth 1 \( -name out -o -name m
 LIBRARY_SOURCES := crates.txt $(shell find $(addprefix crates/,b3_core b3_hash b3_c) -mindepth 1 \
     \( -name out -o -name must-fail \) -prune -o -print)
 
-.PHONY: all install uninstall lib install-lib lib-test check test compare faults refused soak bench imports audit \
-    statements cheat clean force
+.PHONY: all install install-texts uninstall lib install-lib lib-test dist dist-test check test compare faults refused \
+    soak bench imports audit statements cheat clean force
 
 all: b3sum
 	@echo './b3sum is proved and built. To install it below $(PREFIX): make install'
 	@echo 'After a change: make check proves what changed and runs its tests. See CONTRIBUTING.md.'
 
-b3sum: $(SOURCES)
+# Such a file changes, and so what it is of is built again, when another level is asked for.
+b3sum.cpu libb3.cpu: force
+	@echo $(CPU) | cmp -s - $@ || echo $(CPU) > $@
+
+b3sum: $(SOURCES) b3sum.cpu
 	tools/prove b3sum $(FLAGS)
 
-install: b3sum
-	$(INSTALL) -d $(DESTDIR)$(PREFIX)/bin $(SHARE)/man/man1
+# Where no level is asked for, what is built is installed, of whatever level it is.
+install: CPU := $(shell cat b3sum.cpu 2>/dev/null || echo $(CPU))
+install: b3sum install-texts
+	$(INSTALL) -d $(DESTDIR)$(PREFIX)/bin
 	$(INSTALL) -m 755 b3sum $(DESTDIR)$(PREFIX)/bin/b3sum
-	$(INSTALL) -m 644 b3sum.1 $(SHARE)/man/man1/b3sum.1
-	$(INSTALL) -d $(SHARE)/bash-completion/completions $(SHARE)/zsh/site-functions $(SHARE)/fish/vendor_completions.d
+
+# What there is beside the program: the manual page and the completions.
+install-texts:
+	$(INSTALL) -d $(SHARE)/man/man1 $(SHARE)/bash-completion/completions $(ZSH) $(SHARE)/fish/vendor_completions.d
+	sed 's|@VERSION@|$(VERSION)|' b3sum.1 | $(INSTALL) -m 644 /dev/stdin $(SHARE)/man/man1/b3sum.1
 	$(INSTALL) -m 644 completions/b3sum.bash $(SHARE)/bash-completion/completions/b3sum
-	$(INSTALL) -m 644 completions/_b3sum $(SHARE)/zsh/site-functions/_b3sum
+	$(INSTALL) -m 644 completions/_b3sum $(ZSH)/_b3sum
 	$(INSTALL) -m 644 completions/b3sum.fish $(SHARE)/fish/vendor_completions.d/b3sum.fish
 
 # Removes the library too. Its header has a folder of its own, since another implementation's has the same name.
 uninstall:
 	rm -f $(DESTDIR)$(PREFIX)/bin/b3sum $(SHARE)/man/man1/b3sum.1
-	rm -f $(SHARE)/bash-completion/completions/b3sum $(SHARE)/zsh/site-functions/_b3sum
+	rm -f $(SHARE)/bash-completion/completions/b3sum $(ZSH)/_b3sum
 	rm -f $(SHARE)/fish/vendor_completions.d/b3sum.fish
 	rm -f $(addprefix $(DESTDIR)$(PREFIX)/lib/,libb3.a libb3.so libb3.so.0 pkgconfig/b3.pc)
 	rm -f $(DESTDIR)$(PREFIX)/include/b3/blake3.h
 	[ ! -d $(DESTDIR)$(PREFIX)/include/b3 ] || rmdir --ignore-fail-on-non-empty $(DESTDIR)$(PREFIX)/include/b3
 
 lib: libb3.a libb3.so
-
-# It changes, and so the library is built again, when another level is asked for.
-libb3.cpu: force
-	@echo $(CPU) | cmp -s - $@ || echo $(CPU) > $@
 
 libb3.a: $(LIBRARY_SOURCES) libb3.cpu
 	tools/prove libb3.a $(FLAGS)
@@ -89,16 +101,25 @@ libb3.so.0: libb3.a
 libb3.so: libb3.so.0
 	ln -sf $< $@
 
+install-lib: CPU := $(shell cat libb3.cpu 2>/dev/null || echo $(CPU))
 install-lib: lib
 	$(INSTALL) -d $(DESTDIR)$(PREFIX)/lib/pkgconfig $(DESTDIR)$(PREFIX)/include/b3
 	$(INSTALL) -m 644 libb3.a $(DESTDIR)$(PREFIX)/lib/libb3.a
 	$(INSTALL) -m 755 libb3.so.0 $(DESTDIR)$(PREFIX)/lib/libb3.so.0
 	ln -sf libb3.so.0 $(DESTDIR)$(PREFIX)/lib/libb3.so
 	$(INSTALL) -m 644 include/blake3.h $(DESTDIR)$(PREFIX)/include/b3/blake3.h
-	sed -e 's|@PREFIX@|$(PREFIX)|' -e 's|@CPU@|$(CPU)|' b3.pc.in > $(DESTDIR)$(PREFIX)/lib/pkgconfig/b3.pc
+	sed -e 's|@PREFIX@|$(PREFIX)|' -e 's|@LIBDIR@|$${prefix}/lib|' -e 's|@CPU@|$(CPU)|' -e 's|@VERSION@|$(VERSION)|' \
+	    b3.pc.in | $(INSTALL) -m 644 /dev/stdin $(DESTDIR)$(PREFIX)/lib/pkgconfig/b3.pc
 
 lib-test: lib
 	tools/library-test
+
+dist:
+	tools/dist
+
+dist-test:
+	tools/dist-test $(DEBIAN)
+	tools/dist-test --wrong
 
 force:
 
@@ -106,7 +127,7 @@ check:
 	tools/check
 
 test:
-	RT_JOBS=$${RT_JOBS:-$(TASKS)} rt ci
+	RT_JOBS=$${RT_JOBS:-$(TASKS)} tools/gate
 
 compare: b3sum
 	tools/compare
@@ -141,4 +162,4 @@ cheat:
 	tools/cheat $(word 2,$(subst /, ,$(EDIT))) $(EDIT)
 
 clean:
-	rm -rf b3sum libb3.* crates/*/out
+	rm -rf b3sum b3sum.cpu libb3.* dist out crates/*/out

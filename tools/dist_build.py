@@ -1,0 +1,85 @@
+"""Proves, compiles and links what a release holds, in out/release: for each level of x86-64 the objects, which the kit
+makes, and the shared library; and of the objects of both levels one program, linked statically and with the system's libc."""
+
+import shutil
+import subprocess
+import sys
+from pathlib import Path
+
+from dist_common import ENVIRONMENT, LEVELS, ROOT, WORK, empty, put, run, stop
+
+KIT = Path(shutil.which("rt") or "rt").resolve().parent.parent
+# What each program that is linked needs of the kit beside the objects: its calls of the system.
+OF_KIT = [KIT / "c/libos_c.a", KIT / "c/liblibc_c.a"]
+# The objects with what links them, and a copy with what they are linked to.
+OBJECTS, LINKED = WORK / "objects", WORK / "linked"
+STATIC, DYNAMIC = LINKED / "b3sum", WORK / "b3sum.dynamic"
+# The programs that are used, and what each is a part of.
+TOOLS = {"rt": "the Rattle toolchain", "git": "git", "make": "GNU make", "cc": "gcc", "objcopy": "binutils",
+         "tar": "GNU tar", "gzip": "gzip", "dpkg-deb": "dpkg"}
+
+
+def missing():
+    """A line for each thing that is needed and not there."""
+    lines = [f"{tool} is not there: it is a part of {whole}" for tool, whole in TOOLS.items() if not shutil.which(tool)]
+    if shutil.which("cc"):
+        if not libc().is_absolute():
+            lines.append("libc.a is not there: it is a part of glibc, for static programs (Debian: libc6-dev)")
+        words = ["cc", "-fsyntax-only", ROOT / "release/choose.c"]
+        if subprocess.run(words, stdout=subprocess.DEVNULL, stderr=subprocess.DEVNULL).returncode:
+            lines.append("sys/platform/x86.h is not there: it is a part of glibc from 2.33 on (Debian: libc6-dev)")
+    if " avx2 " not in Path("/proc/cpuinfo").read_text():
+        lines.append(f"this processor has no AVX2: rt runs what it builds, and so cannot build for {LEVELS[1]}")
+    return lines
+
+
+def libc():
+    """The C library that a static program is linked with; only a name, if there is none."""
+    return Path(run("cc", "-print-file-name=libc.a"))
+
+
+def proved(product, level):
+    """Proves and compiles a product of tools/prove for a level, and tells how far that is: the prover's last line."""
+    to = OBJECTS / level / product
+    words = [ROOT / "tools/prove", to.relative_to(ROOT), f"--cpu={level}"]
+    print(f"dist: {product} for {level}", flush=True)
+    lines = []
+    with subprocess.Popen(words, env=ENVIRONMENT, stdin=subprocess.DEVNULL, stdout=subprocess.PIPE, text=True) as prover:
+        for line in prover.stdout:
+            sys.stdout.write(line)
+            sys.stdout.flush()
+            lines.append(line.strip())
+    found = [line for line in lines if line.startswith("logic=proved ")]
+    if prover.returncode or len(found) != 1 or f"cpu={level}" not in found[0].split():
+        stop(f"{product} is not proved for {level}")
+    # What an earlier run in this folder had proved is told apart by a word alone. The same sources must give the same text.
+    return " ".join(it for it in found[0].split() if it != "incremental=trusted")
+
+
+def built():
+    """Builds all, and returns the prover's last lines by level and product."""
+    empty(WORK)
+    verdicts = {}
+    for product in ("b3sum.o", "libb3.a"):
+        for level in LEVELS:
+            (OBJECTS / level).mkdir(parents=True, exist_ok=True)
+            verdicts[f"{level}/{product}"] = proved(product, level)
+    link()
+    return verdicts
+
+
+def link():
+    """Links the objects by release/link, on a copy of their folder, and those of the program with the kit's linker."""
+    for level in LEVELS:
+        # Two builds in one file must share no name that either could take from the other.
+        names = run("nm", "--extern-only", "--defined-only", "--format=just-symbols", OBJECTS / level / "b3sum.o")
+        if names != "main":
+            stop(f"b3sum.o for {level} defines more than main: {names}")
+    put(ROOT / "release/link", OBJECTS / "link", 0o755)
+    for path in (ROOT / "release/choose.c", *OF_KIT):
+        put(path, OBJECTS / path.name)
+    shutil.copytree(OBJECTS, LINKED)
+    run("./link", cwd=LINKED)
+    run(KIT / "bin/rattle-link", "--target", "x86_64-unknown-linux-gnu", "--toolchain", KIT / "toolchain", "-o", DYNAMIC,
+        *(LINKED / it for it in ("choose.o", "b3sum_v2.o", "b3sum_v3.o")), *OF_KIT)
+    run("strip", DYNAMIC)
