@@ -99,6 +99,23 @@ def files_of_every_kind(faults):
     faults.row("a list that is too large for little memory", ["-c", "large"], "", OUT_OF_MEMORY, 1, preexec_fn=little)
 
 
+def names_of_every_kind(faults):
+    """Lines and complaints stand in the order of the names, whatever stands under each, by any number of threads."""
+    version = "/proc/version"
+    texts = {name: f"b3sum: {name}: cannot read\n" for name in ("missing", "e/x", "folder")}
+    texts |= {"e": f"{Z0}  e\n", "z": f"{Z1}  z\n", version: f"{digest(Path(version).read_bytes())}  {version}\n",
+              "kinds": f"{Z1025}  kinds\n"}
+    several = [name for name in texts if name != "kinds"] * 100
+    names = [*several, "kinds", *several]
+    os.mkfifo("kinds")
+    for threads in ("1", "2", "4"):
+        with meanwhile(lambda _: Path("kinds").write_bytes(PATTERN[:1025])):
+            faults.row(f"names of every kind, {threads} threads", ["--num-threads", threads, *names],
+                       "".join(texts[name] for name in names), status=1, stderr=subprocess.STDOUT)
+            # Lets the writer continue if nobody opened the FIFO.
+            os.close(os.open("kinds", os.O_RDONLY | os.O_NONBLOCK))
+
+
 def long_files(faults):
     """Random bytes of each length around which the program works differently, with one thread and with many."""
     content = os.urandom(max(WAYS) + 1)

@@ -15,6 +15,9 @@ from faults_rows import CANNOT_WRITE, PATTERN, SECONDS, Z0, Z1, Z1025, warning
 COLUMNS = 80
 # How long a FIFO is fed, in seconds, and in how many parts.
 FEEDING, PARTS = 1.0, 8
+# A length that a thread hashes beside others; and the digest of that many bytes, all 0, by another implementation.
+AHEAD_LEN = 1 << 24
+AHEAD = "b4834959bc889fed1abf3c45d5da0e384134386a4b2786cc5dbb9fe8fa853bbb"
 ERASE = "\x1b[K"
 DRAWN = re.compile(r"\r([^\r\n\x1b]+)\x1b\[K")
 BYTES = r"[\d.]+ [KMGTPE]?i?B"
@@ -132,16 +135,16 @@ def progress(faults):
         return []
 
     unread, sums = "b3sum: missing: cannot read\n", f"{Z1025}  slow\n"
-    Path("of-slow").write_text(f"{Z1025}  slow\n{Z1}  e\n")
+    Path("of-slow").write_text(f"{Z1025}  slow\n{Z0}  z\n")
     with fed_slowly("slow"):
-        lines = row("progress of a FIFO", ["--progress", "e", "slow", "missing"], f"{Z0}  e\n{sums}", unread, 1)
-    faults.compare("progress of a FIFO: names", (None, None, names_in(lines)), ("", "", {"1 of 3: slow"}))
+        lines = row("progress of a FIFO", ["--progress", "e", "missing", "slow"], f"{Z0}  e\n{sums}", unread, 1)
+    faults.compare("progress of a FIFO: names", (None, None, names_in(lines)), ("", "", {"2 of 3: slow"}))
     with fed_slowly("slow"):
         row("progress with both outputs on the terminal", ["--progress", "e", "slow", "missing", "e"], None,
             f"{Z0}  e\n{sums}{unread}{Z0}  e\n", 1, stdout="terminal")
     with fed_slowly("slow"):
-        lines = row("progress of a check", ["-c", "--progress", "of-slow"], "slow: OK\ne: FAILED\n", warning(1), 1)
-    faults.compare("progress of a check: names", (None, None, names_in(lines)), ("", "", {"0 of 2: slow"}))
+        lines = row("progress of a check", ["-c", "--progress", "of-slow"], "slow: OK\nz: FAILED\n", warning(1), 1)
+    faults.compare("progress of a check: names", (None, None, names_in(lines)), ("", "", {"1 of 2: slow"}))
     wide = "漢字" * 40
     with fed_slowly(wide):
         row("progress of a name in wide characters", ["--progress", wide], f"{Z1025}  {wide}\n")
@@ -161,6 +164,23 @@ def progress(faults):
     with fed_slowly("slow"):
         faults.row("no progress without a terminal", ["--progress", "slow"], sums)
     row("no progress of a short run", ["--progress", "e", "z"], f"{Z0}  e\n{Z1}  z\n", is_shown=False)
+
+
+def progress_among_lines(faults):
+    """Threads show progress while lines and complaints are written: on the screen these stand whole, and alone."""
+    Path("ahead").touch()
+    os.truncate("ahead", AHEAD_LEN)
+    texts = {"ahead": f"{AHEAD}  ahead\n", "e": f"{Z0}  e\n", "missing": "b3sum: missing: cannot read\n"}
+    names = [*["ahead"] * 4, "e", "missing"] * 40
+    due = "".join(texts[name] for name in names) + f"{Z1025}  slow\n"
+    for threads in ("1", "2", "4"):
+        name = f"progress among lines, {threads} threads"
+        with fed_slowly("slow"):
+            _, written, status, seconds = run(faults, ["--progress", "--num-threads", threads, *names, "slow"],
+                                              stdout="terminal")
+        faults.compare(name, ("\n".join(rows_after(written)).encode(), None, status), (due, "", 1))
+        shown_lines(faults, name, written, seconds)
+    os.unlink("ahead")
 
 
 def progress_of_long_files(faults):
