@@ -8,6 +8,9 @@ use crate::window::Window;
 use b3_core::{CHUNK_LEN, Mode, Node, top};
 use std::marker::Model;
 
+// The number of the last chunk that an input may have: it has fewer than 2^64 bytes.
+const LAST_CHUNK: u64 = (1 << 54) - 1;
+
 // A mode, the chunks that are closed, and the last one, which is open. There may also be no last chunk
 // yet: then it is one of no bytes.
 #[derive(Drop)]
@@ -107,6 +110,16 @@ impl ChunkHasher {
         ensures { chunk_state_len self.now.chunk_state + result ≡ 1024 }
     {
         CHUNK_LEN - self.last.len()
+    }
+
+    // Whether the open block has room for so many bytes, and the input too. Where it may have 2^64 bytes then, it is not looked
+    // any closer.
+    #[inline]
+    pub(crate) fn has_room_in_block(&self, count: usize) -> bool
+        ensures chunk { IsTrue result → chunk_state_len self.now.chunk_state + count ≤ 1024 }
+        ensures input { IsTrue result → chunks_len self.now + count < 2 ^ 64 }
+    {
+        self.closed.chunks < LAST_CHUNK && self.last.has_room(count)
     }
 
     // Takes in bytes of the open chunk.

@@ -129,6 +129,23 @@ impl Hasher {
         ensures mode { mode_of self.new ≡ mode_of self.old }
         ensures unchanged { OnErr result (self.new ≡ self.old) }
     {
+        if self.window.is_none() && self.chunks.has_room_in_block(input.len()) {
+            self.chunks.extend_chunk(input);
+            return Ok(());
+        }
+        self.update_past_block(input)
+    }
+
+    // The same of bytes that the open block may have no room for. It is not inlined, so that little is done where it has.
+    #[inline(never)]
+    fn update_past_block(&mut self, input: &[u8]) -> Result<(), TooLong>
+        ensures too_long { IsErr result ↔ (2 ^ 64 ≤ length_of self.old + length input.now) }
+        ensures ok { OnOk result ((before : List ℕ) → StandsFor self.old before
+            → StandsFor self.new (before ++ input.now)) }
+        ensures len { OnOk result (length_of self.new ≡ length_of self.old + length input.now) }
+        ensures mode { mode_of self.new ≡ mode_of self.old }
+        ensures unchanged { OnErr result (self.new ≡ self.old) }
+    {
         if input.len() as u64 > u64::MAX - self.len() {
             return Err(TooLong);
         }
@@ -144,11 +161,11 @@ impl Hasher {
         ensures stands_for { (before : List ℕ) → StandsFor self.old before
             → StandsFor self.new (before ++ input.now) }
     {
-        if input.is_empty() {
-            return;
-        }
         if self.window.is_none() && input.len() <= self.chunks.room() {
             self.chunks.extend_chunk(input);
+            return;
+        }
+        if input.is_empty() {
             return;
         }
         self.append_past_chunk(input);

@@ -1,6 +1,6 @@
 // The chunk that an incremental hash has begun (BLAKE3 (2020), 2.4).
 
-ghost use Rattle.std.specs.Prelude.{◌≡◌, ℕ, ◌+◌, ◌-◌, ◌*◌, ◌/◌, ◌<◌, ◌≤◌, [], ◌++◌, List, drop, length, replicate};
+ghost use Rattle.std.specs.Prelude.{◌≡◌, ℕ, ◌+◌, ◌-◌, ◌*◌, ◌/◌, ◌<◌, ◌≤◌, ◌↔◌, [], ◌++◌, List, IsTrue, drop, length, replicate};
 
 use b3_core::{BLOCK_LEN, Mode, Node, chain_onto, last_block_node};
 
@@ -16,7 +16,7 @@ pub(crate) struct OpenChunk {
     ghost block_size: { length block ≡ 64 },
     ghost block_fits: { block_len ≤ 64 },
     ghost padding: { drop block_len block ≡ replicate (64 - block_len) 0 },
-    ghost chunk_fits: { 64 * closed_blocks + block_len ≤ 1024 },
+    ghost blocks_fit: { closed_blocks ≤ 15 },
 }
 
 impl OpenChunk {
@@ -60,6 +60,15 @@ impl OpenChunk {
         ensures { result ≡ 64 * self.now.closed_blocks + self.now.block_len }
     {
         BLOCK_LEN * self.closed_blocks + self.block_len
+    }
+
+    // Whether the open block has room for so many bytes.
+    #[inline]
+    pub(crate) fn has_room(&self, count: usize) -> bool
+        ensures block { IsTrue result ↔ (self.now.block_len + count ≤ 64) }
+        ensures chunk { IsTrue result → 64 * self.now.closed_blocks + self.now.block_len + count ≤ 1024 }
+    {
+        count <= BLOCK_LEN - self.block_len
     }
 
     // The node of the chunk as it is.
@@ -153,7 +162,7 @@ impl OpenChunk {
         ensures chunk_state { (before : List ℕ) → IsChunkState mode.now number (chunk_state_of self.old) before
             → IsChunkState mode.now number (chunk_state_of self.new) (before ++ bytes.now) }
     {
-        if bytes.len() <= BLOCK_LEN - self.block_len {
+        if self.has_room(bytes.len()) {
             self.extend_block(bytes);
             return;
         }

@@ -4,8 +4,8 @@ use Rattle.b3_hash.specs.Private.{chunk_state_of}
 use Rattle.b3_hash.proofs.ChunkStates.{IsChunkState-within}
 use Rattle.b3_hash.proofs.open_chunk.OpenChunk.append.Goals as goal
 
-pub returns-then-bytes-self-clause-chunk_state : goal.returns-then-bytes-self-clause-chunk_state
-returns-then-bytes-self-clause-chunk_state c = λ before chunk_state.
+pub returns-then-has_room-clause-chunk_state : goal.returns-then-has_room-clause-chunk_state
+returns-then-has_room-clause-chunk_state c = λ before chunk_state.
     let after = c.extend_block.new.self in
     let fits : length (take after.block_len after.block) ≤ 64 =
     omega (arith, length-take after.block_len after.block, after.block_fits) in
