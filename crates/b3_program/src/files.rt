@@ -8,7 +8,7 @@ ghost use Rattle.b3_program.specs.Files.{contents_with, rest_of, told_if};
 ghost use Rattle.b3_program.specs.Sources.{file_side, input_side, is_input, is_open, source_left, source_position, source_tells};
 
 use crate::disk::{Disk, DiskFile, FileKind, Input};
-use crate::retrying::{fill_at, read_at_retrying};
+use crate::retrying::fill_at;
 use crate::source::Source;
 use b3_check::{CannotRead, INPUT_NAME, NoContent, Shelf};
 use b3_hash::Hasher;
@@ -101,21 +101,24 @@ fn no_content_for(error: &io::Error) -> NoContent
     }
 }
 
+// The same, where it will be so later too. Other errors may pass: for want of descriptors, say, which other threads hold.
+fn lasting_lack(error: &io::Error) -> Option<NoContent>
+    ensures { (result ≡ Some Missing) ↔ IsOfMissing (error_kind error.now) }
+{
+    match error.kind() {
+        ErrorKind::NotFound | ErrorKind::NotADirectory => Some(NoContent::Missing),
+        ErrorKind::PermissionDenied => Some(NoContent::CannotRead),
+        _ => None,
+    }
+}
+
 // Whether a name is one of a plain file that tells at most so many bytes.
 fn is_short_file(kind: io::Result<FileKind>, max_len: u64) -> bool {
     matches!(kind, Ok(FileKind::Plain(len)) if len <= max_len)
 }
 
-// Whether the first read of a file gives no byte.
-fn is_empty<F: DiskFile>(file: &F, buffer: &mut [u8]) -> bool
-    requires buffer { 0 < length buffer.old }
-    ensures len { length buffer.new ≡ length buffer.old }
-    ensures content { IsTrue F.tells → IsTrue result → F.content file.now ≡ [] }
-{
-    matches!(read_at_retrying(file, 0, buffer), Ok(0))
-}
-
-// Has a file of at most so many bytes hashed, piece by piece, and answers whether it has.
+// Has a file of at most so many bytes hashed, piece by piece, and answers whether it has. One that tells no byte may have
+// some, as those of `/proc`: it is read until a read gives none.
 fn hash_file<F: DiskFile>(
     file: &F,
     len: u64,
@@ -228,8 +231,7 @@ impl<D: Disk, I: Input> Shelf for FileShelf<D, I> {
     }
 
     // Of a plain file, and of no other. The name is asked first, since a FIFO would wait to be opened; then the open file,
-    // which may be another by then, and would wait to be read. One that tells no length is taken where it has no byte:
-    // those of `/proc` tell 0, and may have many, of which one buffer is read here at most.
+    // which may be another by then, and would wait to be read.
     fn hash_whole(&self, name: &str, max_len: u64, buffer: &mut [u8], hasher: &mut Hasher) -> bool {
         if name == INPUT_NAME || !is_short_file(self.disk.kind(name), max_len) {
             return false;
@@ -240,9 +242,6 @@ impl<D: Disk, I: Input> Shelf for FileShelf<D, I> {
         let Some(len) = file.plain_len() else {
             return false;
         };
-        if len == 0 {
-            return is_empty(&file, buffer);
-        }
         len <= max_len && hash_file(&file, len, max_len, buffer, hasher)
     }
 
@@ -257,16 +256,10 @@ impl<D: Disk, I: Input> Shelf for FileShelf<D, I> {
             return None;
         }
         match self.disk.kind(name) {
-            Ok(FileKind::Plain(_)) => {
-                let error = self.disk.open(name).err()?;
-                Some(no_content_for(&error))
-            }
+            Ok(FileKind::Plain(_)) => lasting_lack(&self.disk.open(name).err()?),
             Ok(FileKind::Folder) => Some(NoContent::CannotRead),
             Ok(FileKind::Other) => None,
-            Err(error) => match no_content_for(&error) {
-                NoContent::Missing => Some(NoContent::Missing),
-                NoContent::CannotRead => None,
-            },
+            Err(error) => lasting_lack(&error),
         }
     }
 

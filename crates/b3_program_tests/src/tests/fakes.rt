@@ -100,6 +100,9 @@ pub fn rest_from(content: &[u8], offset: u64) -> &[u8] {
 /// A name that is no plain file and no folder, and that stops a test that opens it.
 pub const FIFO: &str = "fifo";
 
+/// A name that cannot be opened for now, as where too many files are open.
+pub const BUSY: &str = "busy";
+
 /// What the files of a file system have in common.
 #[derive(Drop)]
 pub struct System<'a> {
@@ -296,6 +299,9 @@ impl<'a, R: Abort> Files for FakeFiles<'a, R> {
         assert!(self.rt; path != FIFO, "it would wait");
         if path == self.system.closed {
             return Err(io::Error::from(ErrorKind::PermissionDenied));
+        }
+        if path == BUSY {
+            return Err(io::Error::from(ErrorKind::Other));
         }
         let content = self.system.content(path)?;
         if self.system.open.fetch_add(1, Ordering::SeqCst) > 0 {

@@ -93,6 +93,19 @@ fn a_name_below_a_file_is_missing(rt: HostRuntime) -> Result<(), AllocError> {
     Ok(())
 }
 
+// The digest of "Linux" and a line feed, by another implementation.
+const LINUX: &[u8; 32] = b"\xba\xe4\x64\xe7\x76\x5d\xa7\xf9\xb5\x34\x06\xd2\x4b\xce\x55\x1b\
+    \x93\x2f\x9b\xe7\x5f\xb4\x85\xea\x31\x3a\x94\x00\xae\xff\x81\x83";
+
+// It tells no byte, and has a line.
+#[test]
+fn a_real_file_that_tells_no_length(rt: HostRuntime) {
+    assert_real(
+        &rt,
+        &[HashWhole("/proc/sys/kernel/ostype", u64::MAX, Some(LINUX))],
+    );
+}
+
 #[test]
 fn a_plain_file_alone_is_looked_at(rt: HostRuntime) {
     assert_real(
@@ -101,7 +114,6 @@ fn a_plain_file_alone_is_looked_at(rt: HostRuntime) {
             HashWhole("-", u64::MAX, None),
             HashWhole("/", u64::MAX, None),
             HashWhole("/dev/null", u64::MAX, None),
-            HashWhole("/proc/self/stat", u64::MAX, None),
             HashWhole("a file that is not there", u64::MAX, None),
             HashWhole(OWN_PROGRAM, 1_024, None),
         ],

@@ -1,6 +1,6 @@
 // A shelf of real files whose reads fail, give little, or are interrupted several times in a row.
 
-use super::fakes::{FIFO, Reads, SharedInput, System};
+use super::fakes::{BUSY, FIFO, Reads, SharedInput, System};
 use super::files::{DIGEST, EMPTY, FOUR, counted};
 use super::inputs::{INPUT_AT_3, NOT_SHOWN, SHOWN};
 use super::steps::Step::{Begin, HashWhole, Lacks, Read, ReadAt};
@@ -11,7 +11,7 @@ use std::process::Abort;
 use std::sync::atomic::AtomicU64;
 use std::test::Fail;
 
-const FILES: [NamedFile<'static>; 4] = [
+const FILES: [NamedFile<'static>; 5] = [
     NamedFile {
         name: "a",
         content: b"four",
@@ -19,6 +19,10 @@ const FILES: [NamedFile<'static>; 4] = [
     NamedFile {
         name: "b",
         content: b"other",
+    },
+    NamedFile {
+        name: BUSY,
+        content: b"told later",
     },
     NamedFile {
         name: "closed",
@@ -256,6 +260,17 @@ fn a_file_that_may_not_be_read_is_not_missing(rt: HostRuntime) {
     assert_files(&rt, &System::new(&FILES, Reads::plain()), &steps);
 }
 
+// Other threads may hold what it lacks: so it is begun again in its turn.
+#[test]
+fn a_file_that_cannot_be_opened_for_now_is_not_given_up(rt: HostRuntime) {
+    let steps = [
+        HashWhole(BUSY, u64::MAX, None),
+        Lacks(BUSY, None),
+        Begin(BUSY, Err(NoContent::CannotRead)),
+    ];
+    assert_files(&rt, &System::new(&FILES, Reads::plain()), &steps);
+}
+
 // It would wait for a writer, where others have names to hash.
 #[test]
 fn a_fifo_is_not_opened_before_its_turn(rt: HostRuntime) {
@@ -278,16 +293,12 @@ fn an_empty_file_is_hashed_beside_others(rt: HostRuntime) {
     }
 }
 
-// Of one that tells no byte and has some, no more than a buffer is read.
+// One that tells no byte and has some is read until a read gives none.
 #[test]
-fn a_file_that_tells_no_length_is_not_hashed_beside_others(rt: HostRuntime) {
+fn a_file_that_tells_no_length_is_hashed_beside_others(rt: HostRuntime) {
     let system = System::untold(&FILES);
-    assert_files(
-        &rt,
-        &system,
-        &[HashWhole("a", u64::MAX, None), Lacks("a", None)],
-    );
-    assert_eq!(rt; system.reads.calls(), 1);
+    assert_files(&rt, &system, &[HashWhole("a", u64::MAX, Some(FOUR))]);
+    assert_eq!(rt; system.reads.calls(), 2);
 }
 
 // Of a file that a folder replaced after its name was asked, no byte is read: what stands under a name by the time that
