@@ -273,6 +273,15 @@ has_refused {range} {tasks} {left} {start} {now} {fits} {s} before refused = rec
   count = so_far_least before.so_far;
 }
 
+-- the run stops at an item
+pub come_refused : {range : OutputRange} {tasks left : List Task} {start now : IoState} {fits : Bool} {u : AheadState}
+    {saying : Saying} {fault : RunFault} (item : Item) → HasCome range tasks start left fits u now saying item
+    → fault ≡ Memory → HasStopped range tasks start now saying fault
+come_refused item came refused = record {
+  stopped = λ limits. so_far_refused came.so_far refused;
+  count = so_far_least came.so_far;
+}
+
 -- the run stops in the saying of an item
 pub has_stopped : {range : OutputRange} {tasks left : List Task} {start now after : IoState} {fits : Bool} {u : AheadState}
     {saying said : Saying} {message : Message} {failures : ℕ} {fault : RunFault} (item : Item)

@@ -35,13 +35,14 @@ const LOOKS: usize = 16;
 
 const LOOKS_LEN: u64 = 1 << 16;
 
-/// The same before it leaves the crew for an item that needs its turn, so that a start of threads serves for many.
-const LOOKS_BEFORE_TURN: usize = 256;
+/// The same before it leaves the crew for an item that needs its turn.
+const LOOKS_BEFORE_TURN: usize = 4_096;
 
 const LOOKS_LEN_BEFORE_TURN: u64 = 1 << 20;
 
 /// What the threads of a crew work with: the shelf on which the names are, which bytes of their outputs are wanted, how
-/// long a content may be that one thread hashes, and how many items may be taken and not done.
+/// long a content may be that one thread hashes, and how many items may be taken and not done: while the crew works, and
+/// before it is left.
 #[derive(Drop)]
 pub struct Site<'c, R, S: Shelf, I: AnyItem, L: RunInput> {
     pub rt: &'c R,
@@ -50,7 +51,9 @@ pub struct Site<'c, R, S: Shelf, I: AnyItem, L: RunInput> {
     pub range: OutputRange,
     pub max_len: u64,
     pub window: usize,
+    pub last_window: usize,
     ghost some: { 0 < window },
+    ghost some_last: { 0 < last_window },
     ghost told: { S.told shelf.now ≡ L.start.told },
     ghost sure: { S.is_sure shelf.now ≡ L.start.sure },
     ghost same_range: { range ≡ L.range },
@@ -142,6 +145,27 @@ fn refill<R: Wait, S: Shelf, P: WorkItems<I>, I: AnyItem, L: RunInput, A: Front<
     ahead.show(site.rt, site.crew)
 }
 
+// It takes further items, and finds what is to be said of them too before it leaves the crew: so a start of threads serves
+// for many.
+fn look_further<R: Wait, S: Shelf, P: WorkItems<I>, I: AnyItem, L: RunInput, A: Front<I, L>>(
+    site: &Site<'_, R, S, I, L>,
+    name_hasher: &mut NameHasher,
+    ahead: &mut A,
+    work: &mut P,
+) -> Result<(), AllocError>
+    requires at { IsAt L.tasks (tasks_ahead (A.state ahead.old) (P.left work.old)) (A.state ahead.old).next }
+    requires few { length L.tasks < 2 ^ 63 }
+    requires fits { P.fits work.old L.range.length ≡ true }
+    ensures left { OnOk result (tasks_ahead (A.state ahead.new) (P.left work.new) ≡ tasks_ahead (A.state ahead.old) (P.left work.old)) }
+    ensures next { OnOk result ((A.state ahead.new).next ≡ (A.state ahead.old).next) }
+    ensures fits { OnOk result (P.fits work.new L.range.length ≡ true) }
+{
+    ahead.take_items(work, site.last_window)?;
+    ahead.show(site.rt, site.crew)?;
+    look_at_some(site, name_hasher, LOOKS_BEFORE_TURN, LOOKS_LEN_BEFORE_TURN);
+    Ok(())
+}
+
 // The main thread says what is known, item after item, until one needs its turn, which it answers, or nothing is known of
 // one.
 fn say_known<
@@ -223,7 +247,7 @@ fn lead<
             return Ok(None);
         }
         if let Some(entry) = say_known(site, ahead, &*work, out, err, saying)? {
-            look_at_some(site, name_hasher, LOOKS_BEFORE_TURN, LOOKS_LEN_BEFORE_TURN);
+            look_further(site, name_hasher, ahead, work)?;
             return Ok(Some(entry));
         }
         if !look_at_some(site, name_hasher, LOOKS, LOOKS_LEN) {

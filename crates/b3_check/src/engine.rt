@@ -37,9 +37,12 @@ use std::thread::Threads;
 /// How many items are taken before helpers start.
 const FIRST_ITEMS: usize = 128;
 
-/// How many items are taken at most, and how many bytes are to be said of them, about.
+/// How many items are taken at most while a crew works, and before it is left for an item that needs its turn.
 const MAX_ITEMS: usize = 1_024;
 
+const MAX_LAST_ITEMS: usize = 4_096;
+
+/// How many bytes are to be said of them at most, about.
 const MAX_SAID_LEN: usize = 1 << 22;
 
 /// How many bytes a content may have that is hashed beside others. One worker reads a longer one for too long.
@@ -209,7 +212,7 @@ impl<'c, R: Threads + Wait + Sync, G: Gate + Sync> Engine<'c, R, G> {
     {
         let workers = self.name_hashers.len();
         let count = if workers > 1 {
-            FIRST_ITEMS.min(window_of(self.digester.range().length, workers))
+            FIRST_ITEMS.min(window_of(self.digester.range().length, workers, MAX_ITEMS))
         } else {
             1
         };
@@ -261,7 +264,8 @@ impl<'c, R: Threads + Wait + Sync, G: Gate + Sync> Engine<'c, R, G> {
             shelf: &*devices.shelf,
             range,
             max_len: max_len_of(self.limits, ahead.len() / 2 < workers),
-            window: window_of(range.length, workers),
+            window: window_of(range.length, workers, MAX_ITEMS),
+            last_window: window_of(range.length, workers, MAX_LAST_ITEMS),
         };
         run_crew(
             &site,
@@ -355,14 +359,15 @@ fn max_len_of(limits: Limits, is_few: bool) -> u64 {
     })
 }
 
-// How many items are taken at most, so that what is to be said of them takes some mebibytes. A digest of this length is
-// written by two digits a byte.
-fn window_of(length: u32, workers: usize) -> usize
+// How many items are taken at most, of so many, so that what is to be said of them takes some mebibytes. A digest of this
+// length is written by two digits a byte.
+fn window_of(length: u32, workers: usize, max_items: usize) -> usize
+    requires { 0 < max_items }
     ensures { 0 < result }
 {
     let len = (length as usize).saturating_mul(2).saturating_add(256);
-    let least = workers.saturating_mul(2).clamp(1, MAX_ITEMS);
-    (MAX_SAID_LEN / len).clamp(least, MAX_ITEMS)
+    let least = workers.saturating_mul(2).clamp(1, max_items);
+    (MAX_SAID_LEN / len).clamp(least, max_items)
 }
 
 // Tells the shelf how many names it is asked for, where it wants to know.

@@ -108,6 +108,7 @@ impl NameHasher {
     }
 
     // The output of the whole content of a name, if it is soon read and not too long.
+    #[inline(never)]
     fn output_of<S: Shelf>(
         &mut self,
         shelf: &S,
