@@ -5,7 +5,8 @@
 # make lib          proves the hasher, and builds it as a C library, libb3.a and libb3.so, for this processor or CPU
 # make install-lib  installs the library, its header and b3.pc below PREFIX
 # make check        proves what changed since its last run, and runs the tests of that
-# make test         is the gate: all proofs, the must-fail edits, all tests and the stored run
+# make test         is the gate: all proofs, the must-fail edits, all tests and the stored run; and on the program that it
+#                   built a shorter soak, and compare with a plain b3sum in Python
 #
 # Beside the gate, over what is built:
 # make compare      runs the program beside the installed b3sum, on the same inputs, trees and lists
@@ -15,7 +16,7 @@
 # make faults       runs it with full devices, closed streams, broken lists, odd names and files that change; compares
 #                   the options of its help with completions/
 # make refused      refuses each growth of memory in turn
-# make soak         runs it for two minutes on random trees and lists, with outputs, memory and descriptors that fail
+# make soak         runs it for two minutes on random trees and lists, with input, outputs, memory and descriptors that fail
 # make lib-test     calls the library from C, C++ and Python programs; it needs a C compiler
 # make bench        times the program beside the installed b3sum, the code on lanes beside plain word code, runs of
 #                   workers, and the library beside the original C code, where that is installed; writes the tables of
