@@ -2,7 +2,6 @@
 
 ghost use Rattle.std.specs.Prelude.{◌*◌, ◌+◌, ◌≤◌, length};
 
-use super::first_half;
 use super::lanes::four_modes;
 use super::vectors::{KEY, pattern};
 use b3_core::{
@@ -13,6 +12,12 @@ use std::process::Abort;
 use std::test::Fail;
 
 const NUMBER: u64 = 4_294_967_301;
+
+fn first_half(out: &[u32; 16]) -> [u32; 8] {
+    [
+        out[0], out[1], out[2], out[3], out[4], out[5], out[6], out[7],
+    ]
+}
 
 // The chaining value that `h` becomes by `count` whole blocks, one compression at a time.
 fn chain_plain(mode: &Mode, index: usize, h: &[u32; 8], bytes: &[u8], count: usize) -> [u32; 8]

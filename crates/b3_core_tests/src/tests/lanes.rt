@@ -6,8 +6,8 @@ ghost use Rattle.b3_core.specs.declared.nodes.Node.{Node};
 
 use super::vectors::{KEY, pattern};
 use b3_core::{
-    BLOCK_LEN, CHUNK_LEN, Mode, Node, chain_blocks, chain_chunks, chain_chunks_beside, chain8,
-    chunk_node, chunks, compress, compress8, left, parent_node, top,
+    BLOCK_LEN, CHUNK_LEN, Mode, Node, chain_blocks, chain_chunks, chain_chunks_beside, chunk_node,
+    chunks, compress, compress8, left, parent_node, top,
 };
 use std::process::Abort;
 use std::test::Fail;
@@ -29,13 +29,14 @@ fn top_plain(mode: &Mode, first: u64, bytes: &[u8]) -> Node
     parent_node(mode, &left_node.chaining(), &right_node.chaining())
 }
 
-fn assert_same_top(rt: &impl Abort, mode: &Mode, bytes: &[u8])
-    requires { length bytes.now < 2 ^ 20 }
+fn assert_same_top(rt: &impl Abort, mode: &Mode, first: u64, bytes: &[u8])
+    requires len { length bytes.now < 2 ^ 20 }
+    requires first { first ≤ 2 ^ 53 }
 {
     assert_eq!(rt;
-        top(mode, 5, bytes),
-        top_plain(mode, 5, bytes),
-        "{} bytes under the flag {}",
+        top(mode, first, bytes),
+        top_plain(mode, first, bytes),
+        "{} bytes from {first} on under the flag {}",
         bytes.len(),
         mode.flag
     );
@@ -56,7 +57,7 @@ fn tops_of_up_to_three_chunks_in_each_mode(rt: HostRuntime) -> Result<(), Fail> 
     for mode in four_modes() {
         for len in 0..3001usize {
             let (part, _) = bytes.split_at(len);
-            assert_same_top(&rt, &mode, part);
+            assert_same_top(&rt, &mode, 5, part);
         }
     }
     Ok(())
@@ -70,7 +71,7 @@ fn tops_where_subtrees_begin_and_end_in_each_mode(rt: HostRuntime) -> Result<(),
             8191usize, 8192, 8193, 9216, 9217, 16384, 16385, 65536, 65537,
         ] {
             let (part, _) = bytes.split_at(len);
-            assert_same_top(&rt, &mode, part);
+            assert_same_top(&rt, &mode, 5, part);
         }
     }
     Ok(())
@@ -84,7 +85,7 @@ fn tops_around_whole_numbers_of_chunks(rt: HostRuntime) -> Result<(), Fail> {
         for more in 0..3usize {
             let len = CHUNK_LEN * count + more - 1;
             let (part, _) = bytes.split_at(len);
-            assert_same_top(&rt, &mode, part);
+            assert_same_top(&rt, &mode, 5, part);
         }
     }
     Ok(())
@@ -99,7 +100,7 @@ fn tops_around_whole_numbers_of_blocks(rt: HostRuntime) -> Result<(), Fail> {
         for more in 0..3usize {
             let len = BLOCK_LEN * blocks + more - 1;
             let (part, _) = bytes.split_at(len);
-            assert_same_top(&rt, &mode, part);
+            assert_same_top(&rt, &mode, 5, part);
         }
     }
     Ok(())
@@ -199,37 +200,13 @@ fn assert_beside(
 
 const FIRST: u64 = 4_294_967_292;
 
-// The counters of eight chunks from `FIRST` on: their low words wrap between lanes 3 and 4, and their high words rise
-// there.
-const LOW_WORDS: [u32; 8] = [
-    4_294_967_292,
-    4_294_967_293,
-    4_294_967_294,
-    4_294_967_295,
-    0,
-    1,
-    2,
-    3,
-];
-
-const HIGH_WORDS: [u32; 8] = [0, 0, 0, 0, 1, 1, 1, 1];
-
+// The counters' low words wrap between lanes 3 and 4, and their high words rise there.
 #[test]
-fn counters_across_2_to_the_32(rt: HostRuntime) -> Result<(), Fail> {
-    let bytes = pattern(rt.alloc(), 8192)?;
-    let mut eight = [0; 8192];
-    eight.copy_from_slice(&bytes);
-    let mode = Mode::keyed(KEY);
-    let chainings = chain8(&mode, FIRST, &eight);
-    for j in 0..8usize {
-        let number = u64::from(HIGH_WORDS[j]) << 32 | u64::from(LOW_WORDS[j]);
-        assert_eq!(rt; number, FIRST + j as u64, "lane {j}");
-        let chunk = &bytes[CHUNK_LEN * j..CHUNK_LEN * j + CHUNK_LEN];
-        assert_eq!(rt;
-            chainings[j],
-            chunk_node(&mode, number, chunk).chaining(),
-            "lane {j}"
-        );
+fn tops_across_2_to_the_32(rt: HostRuntime) -> Result<(), Fail> {
+    let bytes = pattern(rt.alloc(), 65536)?;
+    for len in [8192usize, 65536] {
+        let (part, _) = bytes.split_at(len);
+        assert_same_top(&rt, &Mode::keyed(KEY), FIRST, part);
     }
     Ok(())
 }
