@@ -2,10 +2,7 @@
 
 ghost use Rattle.std.specs.Prelude.{◌≡◌, ◌≤◌, length};
 
-use super::{
-    DIGEST_OF_0, DIGEST_OF_1024, DIGEST_OF_1025, assert_digest, assert_tree, digest_of, pattern,
-    update,
-};
+use super::{assert_digest, assert_tree, digest_of, pattern, update};
 use b3_core::{Mode, parent_node, top};
 use b3_hash::{Hasher, TooLong, WindowFault, hash};
 use std::process::Abort;
@@ -35,20 +32,6 @@ fn push(rt: &impl Abort, hasher: &mut Hasher, bytes: &[u8], level: u32)
     assert!(rt; first < 1 << 30);
     let node = top(&Mode::hash(), first, bytes);
     assert_eq!(rt; hasher.push_window(node, level), Ok(()));
-}
-
-#[test]
-fn a_window_of_one_chunk_stays_open(rt: HostRuntime) -> Result<(), Fail> {
-    let bytes = pattern(rt.alloc(), 1025)?;
-    let (chunk, byte) = bytes.split_at(1024);
-    let mut hasher = Hasher::new(Mode::hash());
-    push(&rt, &mut hasher, chunk, 0);
-    assert_digest(&rt, &hasher, &DIGEST_OF_1024, "the window");
-    update(&rt, &mut hasher, &[]);
-    assert_digest(&rt, &hasher, &DIGEST_OF_1024, "and then no bytes");
-    update(&rt, &mut hasher, byte);
-    assert_digest(&rt, &hasher, &DIGEST_OF_1025, "and then 1");
-    Ok(())
 }
 
 // Alone, and followed by one byte more: the root is then the parent of both.
@@ -97,20 +80,6 @@ fn windows_up_to_the_greatest_length(rt: HostRuntime) {
     assert_eq!(rt; hasher.len(), u64::MAX);
     assert_eq!(rt; hasher.update(&[7]), Err(TooLong));
     assert_eq!(rt; hasher.len(), u64::MAX);
-}
-
-#[test]
-fn refused_windows(rt: HostRuntime) {
-    let node = top(&Mode::hash(), 0, &[]);
-    let mut hasher = Hasher::new(Mode::hash());
-    assert_eq!(rt; hasher.push_window(node, 53), Ok(()));
-    assert_eq!(rt; hasher.push_window(node, 53), Err(WindowFault::TooLong));
-    assert_eq!(rt; hasher.len(), 1 << 63);
-    let mut hasher = Hasher::new(Mode::hash());
-    assert_eq!(rt; hasher.update(&[7]), Ok(()));
-    assert_eq!(rt; hasher.push_window(node, 14), Err(WindowFault::Unaligned));
-    assert_eq!(rt; hasher.push_window(node, 0), Err(WindowFault::Unaligned));
-    assert_eq!(rt; hasher.len(), 1);
 }
 
 // Takes in `skip` bytes by an update, then the next 2^level chunks as a window.
@@ -185,15 +154,6 @@ fn a_last_window(rt: HostRuntime) -> Result<(), Fail> {
     assert_tree(&rt, &pushed, before, "which can go on");
     assert_tree(&rt, &updated, before, "which can go on");
     Ok(())
-}
-
-#[test]
-fn a_last_window_of_no_bytes(rt: HostRuntime) {
-    let hasher = Hasher::new(Mode::hash());
-    let len = hasher.len();
-    assert!(rt; len % 1024 == 0);
-    let output = hasher.finish_with(top(&Mode::hash(), 0, &[]));
-    assert_eq!(rt; digest_of(&rt, output), DIGEST_OF_0);
 }
 
 #[test]
