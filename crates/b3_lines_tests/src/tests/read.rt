@@ -94,36 +94,6 @@ fn digits_in_upper_case(rt: HostRuntime) -> Result<(), Fail> {
     Ok(())
 }
 
-/// Asserts what is said by a marked line whose name is `a`, a backslash, this byte and `b`.
-fn assert_spelled(
-    rt: &impl Abort,
-    alloc: Global,
-    byte: u8,
-    want: Result<&str, LineFault>,
-) -> Result<(), Fail> {
-    let line = line_of(alloc, b"\\", &[b' ', b' ', b'a', b'\\', byte, b'b'])?;
-    match read_line(alloc, &line) {
-        Ok(line) => assert_eq!(rt; Ok(line.name.as_str()), want, "at {byte}"),
-        Err(fault) => assert_eq!(rt; Err(fault), want, "at {byte}"),
-    }
-    Ok(())
-}
-
-#[test]
-fn each_byte_after_a_backslash(rt: HostRuntime) -> Result<(), Fail> {
-    for byte in 0..=255u8 {
-        let want = match byte {
-            b'\\' => Ok("a\\b"),
-            b'n' => Ok("a\nb"),
-            b'r' => Ok("a\rb"),
-            128.. => Err(LineFault::NotText),
-            _ => Err(LineFault::BadEscape),
-        };
-        assert_spelled(&rt, rt.alloc(), byte, want)?;
-    }
-    Ok(())
-}
-
 #[test]
 fn lines_that_are_refused(rt: HostRuntime) -> Result<(), Fail> {
     let alloc = rt.alloc();
@@ -190,26 +160,6 @@ fn tagged_lines_that_are_refused(rt: HostRuntime) -> Result<(), Fail> {
     Ok(())
 }
 
-/// None of these has 64 digits at its end.
-#[test]
-fn tagged_lines_that_are_cut_off(rt: HostRuntime) {
-    let alloc = rt.alloc();
-    let rows: [(&[u8], LineFault); 3] = [
-        (b"BLAKE3 (", LineFault::Short),
-        (
-            b"BLAKE3 (af1349b9f5f9a1a6a0404dea36dcc9499bcb25c9adc112b7cc9a93cae41f326",
-            LineFault::Short,
-        ),
-        (
-            b"BLAKE3 (x) = af1349b9f5f9a1a6a0404dea36dcc9499bcb25c9adc112b7cc9a93cae41f326",
-            LineFault::NotDigits,
-        ),
-    ];
-    for (line, fault) in rows {
-        assert_fault(&rt, read_line(alloc, line).err(), fault, line);
-    }
-}
-
 #[test]
 fn other_tags_and_bytes_after_the_digits_are_no_digits(rt: HostRuntime) -> Result<(), Fail> {
     let alloc = rt.alloc();
@@ -225,13 +175,4 @@ fn other_tags_and_bytes_after_the_digits_are_no_digits(rt: HostRuntime) -> Resul
         assert_refused(&rt, alloc, before, after, LineFault::NotDigits)?;
     }
     Ok(())
-}
-
-#[test]
-fn a_backslash_that_ends_a_marked_name_is_a_bad_escape(rt: HostRuntime) -> Result<(), Fail> {
-    let alloc = rt.alloc();
-    for after in ["  \\", "  a\\", "  a\\\\\\", "  a\\\r"] {
-        assert_refused(&rt, alloc, b"\\", after.as_bytes(), LineFault::BadEscape)?;
-    }
-    assert_read(&rt, alloc, b"\\", b"  a\\\\", "a\\", "\\a\\\\")
 }

@@ -1,6 +1,6 @@
 // Lines as they are written, and read back.
 
-use super::{DIGITS, assert_fault, assert_says, digest, line_of};
+use super::{assert_fault, assert_says, digest, line_of};
 use b3_lines::{LineFault, read_line, shown_name, write_line, write_tagged};
 use std::alloc::{AllocError, Global};
 use std::process::Abort;
@@ -83,20 +83,6 @@ fn how_it_is_shown(rt: HostRuntime) -> Result<(), Fail> {
 }
 
 #[test]
-fn shown_names(rt: HostRuntime) -> Result<(), Fail> {
-    let alloc = rt.alloc();
-    for (name, want) in [
-        ("a\\b", "\\a\\\\b"),
-        ("", ""),
-        ("\u{FFFD}\0", "\u{FFFD}\0"),
-        ("\r", "\\\\r"),
-    ] {
-        assert_eq!(rt; shown_name(alloc, name)?.as_str(), want);
-    }
-    Ok(())
-}
-
-#[test]
 fn lines_as_they_are_written(rt: HostRuntime) -> Result<(), Fail> {
     let alloc = rt.alloc();
     assert_plain(&rt, alloc, "x\r", b"\\", b"  x\\r\n", 71)?;
@@ -134,38 +120,4 @@ fn names_that_no_line_shows(rt: HostRuntime) {
         let tagged = write_tagged(alloc, &digest, name).err();
         assert_fault(&rt, tagged, fault, name.as_bytes());
     }
-}
-
-/// Asserts that a line says this digest and this name.
-fn assert_names(
-    rt: &impl Abort,
-    alloc: Global,
-    text: &[u8],
-    digest: &[u8; 32],
-    name: &str,
-) -> Result<(), Fail> {
-    let line = read_line(alloc, text)?;
-    assert!(rt; line.digest == *digest);
-    assert_eq!(rt; line.name.as_str(), name);
-    Ok(())
-}
-
-/// Asserts that a name reads back from its tagged line with one digest, and from its plain line with another.
-fn assert_read_back(rt: &impl Abort, alloc: Global, name: &str) -> Result<(), Fail> {
-    let tagged = write_tagged(alloc, &[0x11; 32], name)?;
-    assert_names(rt, alloc, &tagged[..tagged.len() - 1], &[0x11; 32], name)?;
-    let plain = write_line(alloc, &digest(rt), name)?;
-    assert_names(rt, alloc, &plain[..plain.len() - 1], &digest(rt), name)
-}
-
-/// A name that holds a tagged line of another digest, and one that is read only from its end.
-#[test]
-fn names_that_hold_lines(rt: HostRuntime) -> Result<(), Fail> {
-    let alloc = rt.alloc();
-    for before in ["BLAKE3 (a) = ", "a) = ", "", "a  "] {
-        let mut name = String::from_str(alloc, before)?;
-        name.push_str(DIGITS)?;
-        assert_read_back(&rt, alloc, name.as_str())?;
-    }
-    Ok(())
 }
