@@ -49,16 +49,3 @@ fn a_name_has_its_line(rt: HostRuntime) -> Result<(), Fail> {
     assert!(rt; err.bytes().is_empty());
     Ok(())
 }
-
-#[test]
-fn a_missing_name_has_a_complaint(rt: HostRuntime) -> Result<(), Fail> {
-    let alloc = rt.alloc();
-    let mut out = MemorySink::new(alloc);
-    let mut err = MemorySink::new(alloc);
-    let name = String::from_str(alloc, "gone")?;
-    let answer = sum_one(&rt, alloc, &FILES, b"", name, &mut out, &mut err);
-    assert!(rt; answer.is_ok_and(|tally| tally.ok == 0 && tally.failed == 1));
-    assert!(rt; out.bytes().is_empty());
-    assert_eq!(rt; err.bytes(), b"b3sum: gone: cannot read\n".as_slice());
-    Ok(())
-}

@@ -27,19 +27,6 @@ fn assert_refused(rt: &impl Abort, alloc: Global, words: &[&str], part: &str) {
     }
 }
 
-#[test]
-fn no_words(rt: HostRuntime) -> Result<(), Stop> {
-    let words = read(rt.alloc(), &[])?;
-    assert!(rt; !words.check && !words.keyed && !words.raw && !words.no_names && !words.quiet);
-    assert!(rt; !words.tag && words.derive_key.is_none() && !words.progress);
-    assert!(rt; !words.ignore_missing && !words.status && !words.strict && !words.warn);
-    assert_eq!(rt; words.length, None);
-    assert_eq!(rt; words.seek, None);
-    assert_eq!(rt; words.num_threads, None);
-    assert!(rt; words.files0_from.is_none() && words.files.is_empty());
-    Ok(())
-}
-
 const ALL: [&str; 26] = [
     "-c",
     "a",
@@ -119,35 +106,6 @@ fn the_ends_of_each_range(rt: HostRuntime) -> Result<(), Stop> {
         &["--num-threads", "65536"],
         "65536 is not in 0..=65535",
     );
-    Ok(())
-}
-
-// Each word sets its own field.
-#[test]
-fn words_of_a_check(rt: HostRuntime) -> Result<(), Stop> {
-    let alloc = rt.alloc();
-    for (k, word) in [
-        "--quiet",
-        "--ignore-missing",
-        "--status",
-        "--strict",
-        "--warn",
-    ]
-    .iter()
-    .enumerate()
-    {
-        let words = read(alloc, &["-c", *word])?;
-        let fields = [
-            words.quiet,
-            words.ignore_missing,
-            words.status,
-            words.strict,
-            words.warn,
-        ];
-        for (place, field) in fields.iter().enumerate() {
-            assert_eq!(rt; *field, place == k, "{word}");
-        }
-    }
     Ok(())
 }
 
