@@ -47,34 +47,6 @@ fn three_seats_claim_in_turn(rt: HostRuntime) -> Result<(), Fail> {
     Ok(())
 }
 
-#[test]
-fn two_seats_claim_in_turn(rt: HostRuntime) -> Result<(), Fail> {
-    let (claims, mut first) = Claims::new(rt.alloc(), 3)?;
-    let mut second = claims.split(&mut first);
-    assert!(&rt; try_claim(&claims, &mut first, 0) && !try_claim(&claims, &mut second, 0));
-    assert!(&rt; try_claim(&claims, &mut second, 1) && !try_claim(&claims, &mut first, 1));
-    assert!(&rt; try_claim(&claims, &mut first, 2) && !try_claim(&claims, &mut second, 2));
-    claims.join(&mut first, second);
-    assert_eq!(&rt; claims.close(first).as_slice(), [0u32, 2, 1].as_slice());
-    Ok(())
-}
-
-// A seat that is dropped takes its part with it: the others claim on, and nothing can be closed.
-#[test]
-fn a_seat_that_is_dropped(rt: HostRuntime) -> Result<(), Fail> {
-    let (claims, mut first) = Claims::new(rt.alloc(), 2)?;
-    let mut dropped = claims.split(&mut first);
-    assert!(&rt; try_claim(&claims, &mut dropped, 0));
-    drop(dropped);
-    assert_eq!(&rt; first.parts(), 127);
-    assert!(&rt; !try_claim(&claims, &mut first, 0) && try_claim(&claims, &mut first, 1));
-    let mut second = claims.split(&mut first);
-    assert!(&rt; !try_claim(&claims, &mut second, 0) && !try_claim(&claims, &mut second, 1));
-    claims.join(&mut first, second);
-    assert_eq!(&rt; (first.parts(), first.claimed()), (127, [1u32].as_slice()));
-    Ok(())
-}
-
 fn claim_all(claims: &Claims, mut seat: Seat, n: usize) -> Seat
     requires count { claims.now.count ≡ n }
     requires own { IsSeatOf claims.now seat }

@@ -182,11 +182,6 @@ fn assert_lengths<R: Threads + Wait + Abort + Sync, G: Gate + Sync>(
     Ok(())
 }
 
-#[test]
-fn each_length_around_spans(rt: HostRuntime) -> Result<(), Fail> {
-    assert_lengths(&rt, rt.alloc(), 1000, &OpenGate)
-}
-
 // The second of two regions: its chunks are numbered from its own first, and what stands after it is not read.
 #[test]
 fn each_length_of_a_region_after_another(rt: HostRuntime) -> Result<(), Fail> {
@@ -303,30 +298,6 @@ fn each_read_fails(rt: HostRuntime) -> Result<(), Fail> {
         let found = read_five(&rt, rt.alloc(), all, 5, how, 3)?;
         assert_read(&rt, found, all, 0, 3);
     }
-    Ok(())
-}
-
-// A source that tells its bytes and one that does not give one answer.
-#[test]
-fn told_or_not(rt: HostRuntime) -> Result<(), Fail> {
-    let bytes = [7; 5000];
-    let told = Told { bytes: &bytes };
-    let mut buffer = [0; 3 * 2048];
-    let found = hash_part(
-        &rt,
-        rt.alloc(),
-        &told,
-        0,
-        5000,
-        2,
-        3,
-        &mut buffer,
-        &OpenGate,
-    )?;
-    assert_read(&rt, found, &bytes, 0, 3);
-    let silent = Silent::good(&bytes, 0);
-    let found = read_part(&rt, rt.alloc(), &silent, 0, 5000, 3, &OpenGate)?;
-    assert_read(&rt, found, &bytes, 0, 3);
     Ok(())
 }
 

@@ -1,22 +1,14 @@
-// Workers over a board, and runs of many workers.
-
-ghost use Rattle.std.specs.Prelude.{◌≡◌};
-ghost use Rattle.b3_board.specs.Plans.{IsPlanOf};
+// Runs of many workers.
 
 use super::memory::{by_cutting, by_grain, last_growth};
 use super::random::{Rng, cut_at_random};
-use super::rendezvous::{AllAtOnce, Yielding};
-use super::{DIGEST_OF_0, assert_digest, assert_root, open_board, pattern};
-use b3_board::{
-    BoardFault, Claims, Ended, Gate, InputLedger, MemoryBoard, OpenGate, Plan, Report, Share,
-    hash_parallel, worker,
-};
+use super::rendezvous::Yielding;
+use super::{DIGEST_OF_0, assert_digest, pattern};
+use b3_board::{BoardFault, Gate, OpenGate, Plan, Report, hash_parallel};
 use b3_core::{Mode, chunks, top};
 use std::alloc::Global;
-use std::marker::Brand;
 use std::process::Abort;
-use std::sync::ledger::Blank;
-use std::sync::{Mutex, Wait};
+use std::sync::Wait;
 use std::test::Fail;
 use std::thread::Threads;
 
@@ -80,35 +72,6 @@ fn nothing_and_64_workers(rt: HostRuntime) -> Result<(), Fail> {
     Ok(())
 }
 
-// Workers who let one another go on leave no span to the sweep, over one span and over two.
-#[test]
-fn nothing_swept(rt: HostRuntime) -> Result<(), Fail> {
-    let input = pattern(rt.alloc(), 32 * 1024)?;
-    for (len, spans, workers) in [(0usize, 1, 64u32), (32 * 1024, 2, 2)] {
-        let part = &input[..len];
-        let plan = by_grain(rt.alloc(), part, 16)?;
-        let report = run(&rt, rt.alloc(), &plan, workers, &Yielding)?;
-        assert_report(&rt, &report, part, 0, spans, workers);
-    }
-    Ok(())
-}
-
-#[test]
-fn two_at_once(rt: HostRuntime) -> Result<(), Fail> {
-    let input = pattern(rt.alloc(), 32 * 1024)?;
-    let plan = by_grain(rt.alloc(), &input, 16)?;
-    let gate = AllAtOnce::new(2);
-    let report = run(&rt, rt.alloc(), &plan, 2, &gate)?;
-    assert!(&rt; gate.workers.is_complete());
-    assert_eq!(&rt;
-        (gate.workers.arrived(), gate.spans(), gate.calls()),
-        (0b11, 0b11, 2)
-    );
-    assert_report(&rt, &report, &input, 0, 2, 2);
-    assert_eq!(&rt; report.shares.as_slice(), [16u64, 16].as_slice());
-    Ok(())
-}
-
 #[test]
 fn random_cuttings_and_workers(rt: HostRuntime) -> Result<(), Fail> {
     let alloc = rt.alloc();
@@ -167,63 +130,4 @@ fn refused_memory_of_a_run(rt: HostRuntime) -> Result<(), Fail> {
     assert!(&rt; answers_of_two(&rt, alloc) > 0);
     assert!(&rt; last_growth(alloc).is_ok(), "refused after the last call");
     Ok(())
-}
-
-// What a worker alone leaves.
-fn work_alone<'a, L: InputLedger, R: Wait>(
-    rt: &R,
-    alloc: Global,
-    plan: &Plan<'a>,
-    board: &Mutex<MemoryBoard<'a, L>>,
-    share: Share<L>,
-) -> Result<Ended<L>, BoardFault> {
-    let (claims, seat) = Claims::new(alloc, plan.len())?;
-    Ok(worker(rt, plan, board, &claims, seat, share, 0, &OpenGate))
-}
-
-// A worker alone deposits every span of the board's plan, and none of a plan over other bytes, which it claims all the
-// same.
-fn alone_on<'a, L: InputLedger, R: Wait + Abort>(
-    rt: &R,
-    alloc: Global,
-    plan: &Plan<'a>,
-    stranger: &Plan<'a>,
-    blank: Blank,
-) -> Result<(), Fail>
-    requires name { blank.name ≡ L.name }
-    requires parts { blank.parts ≡ L.parts }
-    requires whole { L.parts ≡ 128 }
-    requires own { IsPlanOf L.input L.mode L.first plan.now }
-{
-    let (board, mut share) = open_board::<L>(alloc, plan, blank)?;
-    assert!(rt; share.parts() == 128);
-    let theirs = share.split();
-    let board = Mutex::new(board);
-    let in_vain = work_alone(rt, alloc, stranger, &board, theirs)?;
-    assert_eq!(rt; in_vain.seat.claimed(), [0u32, 1, 2].as_slice());
-    assert_eq!(rt; in_vain.share.chunks(), 0);
-    let ended = work_alone(rt, alloc, plan, &board, share)?;
-    assert_eq!(rt; ended.seat.claimed(), [0u32, 1, 2].as_slice());
-    assert_eq!(rt; (ended.seat.parts(), ended.share.parts()), (128, 127));
-    assert_eq!(rt; ended.share.chunks(), 5);
-    assert_root(rt, &board.into_inner(), plan.input());
-    Ok(())
-}
-
-fn alone<'a, R: Wait + Abort>(
-    rt: &R,
-    alloc: Global,
-    plan: &Plan<'a>,
-    stranger: &Plan<'a>,
-) -> Result<(), Fail> {
-    alone_on::<Brand, R>(rt, alloc, plan, stranger, Blank::new(128))
-}
-
-#[test]
-fn a_worker_alone(rt: HostRuntime) -> Result<(), Fail> {
-    let input = pattern(rt.alloc(), 5 * 1024)?;
-    let zeros = vec![in rt.alloc(); 0; 5 * 1024]?;
-    let plan = by_grain(rt.alloc(), &input, 2)?;
-    let stranger = by_grain(rt.alloc(), &zeros, 2)?;
-    alone(&rt, rt.alloc(), &plan, &stranger)
 }

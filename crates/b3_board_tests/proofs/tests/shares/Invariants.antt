@@ -1,8 +1,0 @@
-use Rattle.b3_board.specs.Spans.{in_memory}
-use Rattle.b3_board_tests.proofs.tests.shares.Given as goal
-
-abbrev pub ghosts-shares_on-L-InputLedger : goal.ghosts-shares_on-L-InputLedger
-ghosts-shares_on-L-InputLedger g a = record { input = in_memory a.plan.now.input; mode = a.plan.now.mode; first = a.plan.now.first }
-
-abbrev pub ghosts-shares_on-L-Ledger : goal.ghosts-shares_on-L-Ledger
-ghosts-shares_on-L-Ledger g a = record { name = a.blank.name; parts = a.blank.parts }
