@@ -12,11 +12,8 @@ mod lengths;
 mod lettered_files;
 mod memory;
 mod names;
-mod plain_lines;
-mod random;
 mod recording;
 mod rendezvous;
-mod report;
 mod strictness;
 mod sums;
 

@@ -2,10 +2,8 @@
 
 use crate::tests::ended::{check, check_files};
 use crate::tests::failing::EndlessFile;
-use crate::tests::{EMPTY, check_options, joined, lines_tally, tally};
-use b3_check::{Answer, RunFault, Tally, Verdict, judge};
-use b3_lines::read_line;
-use std::alloc::Global;
+use crate::tests::{check_options, lines_tally};
+use b3_check::RunFault;
 use std::test::Fail;
 
 // A list of a right line that ends in CR LF, a wrong one, and one that is cut off.
@@ -31,7 +29,7 @@ const BOTH_FORMS: &[u8] =
       BLAKE3 (\n";
 
 // Lists, what they count, and what is written of them: over a file x of one byte 00, and empty files y and a\b.
-const LISTS: [(&str, &[u8], [u64; 4], &[u8], &[u8]); 7] = [
+const LISTS: &[(&str, &[u8], [u64; 4], &[u8], &[u8])] = &[
     (
         "three lines",
         THREE_LINES,
@@ -79,9 +77,19 @@ const LISTS: [(&str, &[u8], [u64; 4], &[u8], &[u8]); 7] = [
     ),
 ];
 
+fn rows() -> &'static [(
+    &'static str,
+    &'static [u8],
+    [u64; 4],
+    &'static [u8],
+    &'static [u8],
+)] {
+    LISTS
+}
+
 #[test]
 fn lists_and_what_is_written_of_them(rt: HostRuntime) -> Result<(), Fail> {
-    for (row, list, counts, out, err) in &LISTS {
+    for (row, list, counts, out, err) in rows() {
         let files = [
             ("l", *list),
             ("x", b"\0".as_slice()),
@@ -103,74 +111,6 @@ fn lists_and_what_is_written_of_them(rt: HostRuntime) -> Result<(), Fail> {
     Ok(())
 }
 
-#[test]
-fn quiet_leaves_out_what_is_right(rt: HostRuntime) -> Result<(), Fail> {
-    let files = [("l", THREE_LINES), ("x", b"\0"), ("y", b"")];
-    let ended = check_files(&rt, rt.alloc(), &files, &["l"], &check_options(true, 1_000))?;
-    let counts = lines_tally(1, 1, 0, 1);
-    ended.assert(&rt, "quiet", Ok(counts), b"y: FAILED\n", THREE_COMPLAINTS);
-    Ok(())
-}
-
-// Line numbers begin anew in each list; a list that cannot be read is not among the failed lines, and
-// the warning comes after the last list.
-#[test]
-fn lists_one_after_the_other(rt: HostRuntime) -> Result<(), Fail> {
-    let last = joined(rt.alloc(), &["\n", EMPTY, "  e"])?;
-    let files = [
-        ("m", b"\n\n".as_slice()),
-        ("n", last.as_bytes()),
-        ("e", b""),
-    ];
-    let lists = ["m", "none\n", "n"];
-    let ended = check_files(
-        &rt,
-        rt.alloc(),
-        &files,
-        &lists,
-        &check_options(false, 1_000),
-    )?;
-    let counts = Tally {
-        lists: 1,
-        ..lines_tally(1, 0, 0, 3)
-    };
-    let complaints = b"b3sum: line 1: empty line\n\
-        b3sum: line 2: empty line\n\
-        b3sum: \\none\\n: cannot read\n\
-        b3sum: line 1: empty line\n\
-        b3sum: WARNING: 3 computed checksums did NOT match\n";
-    ended.assert(&rt, "three lists", Ok(counts), b"e: OK\n", complaints);
-    Ok(())
-}
-
-// What is said of a list of so many line feeds.
-fn empty_lines(alloc: Global, count: u64) -> Result<String, Fail> {
-    let mut text = String::new(alloc);
-    for number in 1..=count {
-        let complaint = format!(in alloc; "b3sum: line {number}: empty line\n")?;
-        text.push_str(complaint.as_str())?;
-    }
-    let warning = format!(in alloc; "b3sum: WARNING: {count} computed checksums did NOT match\n")?;
-    text.push_str(warning.as_str())?;
-    Ok(text)
-}
-
-#[test]
-fn a_list_may_have_so_many_bytes(rt: HostRuntime) -> Result<(), Fail> {
-    let alloc = rt.alloc();
-    let feeds = vec![in alloc; b'\n'; 101]?;
-    let (hundred, _) = feeds.split_at(100);
-    let asked = check_options(false, 100);
-    let ended = check_files(&rt, alloc, &[("l", hundred)], &["l"], &asked)?;
-    let counts = Ok(lines_tally(0, 0, 0, 100));
-    let said = empty_lines(alloc, 100)?;
-    ended.assert(&rt, "100 bytes", counts, b"", said.as_bytes());
-    let ended = check_files(&rt, alloc, &[("l", &feeds)], &["l"], &asked)?;
-    let fault = Err(RunFault::EndlessInput);
-    ended.assert(&rt, "101 bytes", fault, b"", b"");
-    Ok(())
-}
-
 // It is ended by its reads where it may have more bytes than these give, and else by its bytes.
 #[test]
 fn a_list_that_has_no_end(rt: HostRuntime) -> Result<(), Fail> {
@@ -180,18 +120,5 @@ fn a_list_that_has_no_end(rt: HostRuntime) -> Result<(), Fail> {
         let ended = check(&rt, rt.alloc(), &mut shelf, &["l"], &asked)?;
         ended.assert(&rt, "for ever", Err(RunFault::EndlessInput), b"", b"");
     }
-    Ok(())
-}
-
-#[test]
-fn a_line_is_judged_by_its_whole_digest(rt: HostRuntime) -> Result<(), Fail> {
-    let text = joined(rt.alloc(), &[EMPTY, "  x"])?;
-    let line = read_line(rt.alloc(), text.as_bytes())?;
-    let mut other = line.digest;
-    other[31] ^= 1;
-    assert_eq!(rt; judge(&line, &Answer::Digest(line.digest)), Verdict::Good);
-    assert_eq!(rt; judge(&line, &Answer::Digest(other)), Verdict::Differs);
-    assert_eq!(rt; judge(&line, &Answer::CannotRead), Verdict::Unreadable);
-    assert_eq!(rt; judge(&line, &Answer::Missing), Verdict::Missing);
     Ok(())
 }

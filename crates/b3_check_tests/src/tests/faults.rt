@@ -1,17 +1,15 @@
-// Lists over devices that fail at one call, and lists that are cut off.
+// Lists over devices that fail at one call.
 
 use crate::tests::checks::{THREE_COMPLAINTS, THREE_LINES, THREE_VERDICTS};
-use crate::tests::ended::{Ended, check_files, check_into};
+use crate::tests::ended::{Ended, check_into};
 use crate::tests::failing::FailingShelf;
 use crate::tests::recording::PieceSink;
-use crate::tests::{EMPTY, ONE_BYTE, check_options, joined, lines_tally, tally};
+use crate::tests::{check_options, lines_tally, tally};
 use b3_check::{MemoryShelf, RunFault, Tally};
 use std::process::Abort;
 use std::sync::Wait;
 use std::test::Fail;
 use std::thread::Threads;
-
-const ONE_WARNING: &str = "b3sum: WARNING: 1 computed checksum did NOT match\n";
 
 // Checks the list of three lines. The call of the shelf after so many fails, and so does the write of each sink.
 fn three_lines<R: AllocGlobal + Abort + Threads + Wait + Sync>(
@@ -89,66 +87,5 @@ fn a_sink_that_fails_at_each_byte_in_turn(rt: HostRuntime) -> Result<(), Fail> {
     let ended = three_lines(&rt, u64::MAX, 16, 77)?;
     let counts = Ok(lines_tally(1, 1, 0, 1));
     ended.assert(&rt, "no fault", counts, THREE_VERDICTS, THREE_COMPLAINTS);
-    Ok(())
-}
-
-// Checks a list of the first bytes of a line, and compares what is said of it.
-fn compare_cut<R: AllocGlobal + Abort + Threads + Wait + Sync>(
-    rt: &R,
-    list: &[u8],
-    verdict: &str,
-    complaint: &str,
-) -> Result<(), Fail> {
-    let files = [("l", list), ("x", b"\0".as_slice()), ("a\\b\nc", b"")];
-    let ended = check_files(rt, rt.alloc(), &files, &["l"], &check_options(false, 1_000))?;
-    let (counts, warning) = match (verdict, complaint) {
-        ("", "") => (tally(0, 0, 0), ""),
-        ("", _) => (lines_tally(0, 0, 0, 1), ONE_WARNING),
-        (verdict, _) if verdict.ends_with("OK\n") => (tally(1, 0, 0), ""),
-        _ => (lines_tally(0, 0, 1, 0), ONE_WARNING),
-    };
-    let err = joined(rt.alloc(), &[complaint, warning])?;
-    let row = "a line that is cut off";
-    ended.assert(rt, row, Ok(counts), verdict.as_bytes(), err.as_bytes());
-    let status = if warning.is_empty() { 0 } else { 1 };
-    assert_eq!(rt; counts.status(), status);
-    Ok(())
-}
-
-#[test]
-fn a_plain_line_cut_at_each_byte(rt: HostRuntime) -> Result<(), Fail> {
-    let line = joined(rt.alloc(), &[ONE_BYTE, "  x\n"])?;
-    let line = line.as_bytes();
-    assert_eq!(rt; line.len(), 68);
-    for k in 0..line.len() + 1 {
-        let (verdict, complaint) = match k {
-            0 => ("", ""),
-            1..=65 => ("", "b3sum: line 1: short line\n"),
-            66 => ("", "b3sum: line 1: no name\n"),
-            _ => ("x: OK\n", ""),
-        };
-        compare_cut(&rt, &line[..k], verdict, complaint)?;
-    }
-    Ok(())
-}
-
-#[test]
-fn a_marked_line_cut_at_each_byte(rt: HostRuntime) -> Result<(), Fail> {
-    let line = joined(rt.alloc(), &["\\", EMPTY, "  a\\\\b\\nc\n"])?;
-    let line = line.as_bytes();
-    assert_eq!(rt; line.len(), 75);
-    for k in 1..line.len() + 1 {
-        let (verdict, complaint) = match k {
-            1..=66 => ("", "b3sum: line 1: short line\n"),
-            67 => ("", "b3sum: line 1: no name\n"),
-            69 | 72 => ("", "b3sum: line 1: bad escape\n"),
-            68 => ("\\a: FAILED (cannot read)\n", ""),
-            70 => ("\\a\\\\: FAILED (cannot read)\n", ""),
-            71 => ("\\a\\\\b: FAILED (cannot read)\n", ""),
-            73 => ("\\a\\\\b\\n: FAILED (cannot read)\n", ""),
-            _ => ("\\a\\\\b\\nc: OK\n", ""),
-        };
-        compare_cut(&rt, &line[..k], verdict, complaint)?;
-    }
     Ok(())
 }

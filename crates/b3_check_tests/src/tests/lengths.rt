@@ -5,7 +5,7 @@ use crate::tests::contents::{
 };
 use crate::tests::ended::{check, sum, sum_files};
 use crate::tests::lettered_files::{Access, LetteredFiles, number_in};
-use crate::tests::recording::{RecordedFiles, file_of};
+use crate::tests::recording::PieceFiles;
 use crate::tests::{EMPTY, check_options, lines_tally, options, tally};
 use b3_check::{RunFault, SumOptions};
 use std::alloc::Global;
@@ -137,9 +137,10 @@ fn a_failure_leaves_nothing_behind(rt: HostRuntime) -> Result<(), Fail> {
     let alloc = rt.alloc();
     let line = line_of("g196608");
     let text = format!(in alloc; "{line}\n")?;
-    let files = [file_of(alloc, "g196608", pattern(alloc, 196_608)?.as_slice())?];
+    let content = pattern(alloc, 196_608)?;
+    let files = [("g196608", content.as_slice())];
     for calls_before in 0..5 {
-        let mut shelf = RecordedFiles::new(alloc, &files, 65_536, calls_before);
+        let mut shelf = PieceFiles::new(&files, 65_536, calls_before);
         let names = ["g196608", "g196608"];
         let ended = sum(&rt, alloc, &mut shelf, &names, &options(4, 0))?;
         ended.assert(&rt, line, Ok(tally(1, 1, 0)), text.as_bytes(), COMPLAINT);

@@ -5,20 +5,11 @@ ghost use Rattle.std.specs.Prelude.{◌≡◌, ◌^◌, ◌<◌, ◌≤◌};
 use crate::tests::checks::{THREE_COMPLAINTS, THREE_LINES, THREE_VERDICTS};
 use crate::tests::ended::{check_into, sum_into};
 use crate::tests::{check_options, lines_tally, options, tally};
-use b3_check::{Answer, MemoryShelf, MemorySink, RunFault, Shelf, Sink, Tally, Verdict, judge};
+use b3_check::{Answer, MemoryShelf, MemorySink, RunFault, Shelf, Tally, Verdict, judge};
 use b3_lines::{Line, read_line};
 use std::alloc::{AllocError, Global};
 use std::process::Abort;
 use std::test::Fail;
-
-// A call of a shelf, and its answer.
-enum Step {
-    Put(&'static str, &'static [u8]),
-    // Whether the name is there.
-    Begin(&'static str, bool),
-    // What is read next into a buffer of three bytes.
-    Read(&'static [u8]),
-}
 
 // A shelf in memory, and how often it was asked for what may fail.
 #[derive(Drop)]
@@ -50,55 +41,6 @@ impl Asked {
         assert_eq!(rt; self.shelf.read(&mut buffer[..most]), Ok(bytes.len()));
         assert!(rt; buffer.starts_with(bytes));
     }
-
-    fn step(&mut self, rt: &impl Abort, step: &Step) -> Result<(), AllocError> {
-        match *step {
-            Step::Put(name, content) => self.shelf.put(name, content)?,
-            Step::Begin(name, is_there) => self.begin(rt, name, is_there),
-            Step::Read(bytes) => self.read(rt, 3, bytes),
-        }
-        Ok(())
-    }
-}
-
-const STEPS: [Step; 13] = [
-    Step::Read(b""),
-    Step::Put("a", b"old"),
-    Step::Put("b", b"beta"),
-    Step::Put("a", b"alpha"),
-    Step::Begin("c", false),
-    Step::Begin("a", true),
-    Step::Read(b"alp"),
-    Step::Read(b"ha"),
-    Step::Read(b""),
-    Step::Begin("b", true),
-    Step::Read(b"bet"),
-    Step::Put("c", b""),
-    Step::Read(b""),
-];
-
-fn steps() -> &'static [Step] {
-    &STEPS
-}
-
-#[test]
-fn a_memory_shelf_gives_what_was_put(rt: HostRuntime) -> Result<(), Fail> {
-    let mut asked = Asked::new(rt.alloc());
-    for step in steps() {
-        asked.step(&rt, step)?;
-    }
-    Ok(())
-}
-
-#[test]
-fn a_memory_sink_holds_what_was_written(rt: HostRuntime) -> Result<(), Fail> {
-    let mut sink = MemorySink::new(rt.alloc());
-    assert!(rt; sink.bytes().is_empty());
-    assert_eq!(rt; sink.write(b"one "), Ok(4));
-    assert_eq!(rt; sink.write(b""), Ok(0));
-    assert_eq!(rt; sink.write(b"two"), Ok(3));
-    assert_eq!(rt; sink.bytes(), b"one two".as_slice());
-    Ok(())
 }
 
 // The lines of the files `e`, which is empty, and `x`, which has one byte 00.

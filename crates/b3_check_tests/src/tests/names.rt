@@ -16,16 +16,7 @@ use std::test::Fail;
 use std::thread::Threads;
 
 // As many bytes as the longest file here has, and 250 more.
-const KEPT: usize = 40_000 + 250;
-
-// Files of 0 to 40,000 bytes, each 404 bytes longer than the one before.
-fn hundred_names(alloc: Global) -> Result<Vec<String>, Fail> {
-    let mut names = Vec::new(alloc);
-    for n in 0..100u64 {
-        names.push(format!(in alloc; "g{}", (n * 404).min(40_000))?)?;
-    }
-    Ok(names)
-}
+const KEPT: usize = 3_001 + 250;
 
 // Files of 1 to 3,000 bytes, at random: two in sixteen are not there, and two fail.
 fn thousand_names(alloc: Global) -> Result<Vec<String>, Fail> {
@@ -225,17 +216,6 @@ fn assert_names<R: Abort + Threads + Wait + Sync>(
         workers,
         access,
     )
-}
-
-#[test]
-fn a_hundred_files_by_each_number_of_workers(rt: HostRuntime) -> Result<(), Fail> {
-    let names = hundred_names(rt.alloc())?;
-    for workers in [1, 2, 4, 64] {
-        for access in [Access::InOrder, Access::AtPlaces, Access::Beside] {
-            assert_names(&rt, rt.alloc(), &names, workers, access)?;
-        }
-    }
-    Ok(())
 }
 
 #[test]

@@ -1,12 +1,9 @@
 // Checks with the options that say what is passed over, what is strict and what is said: each text where it is due
-// and where it is not, and lists at random with every set of these options beside a plain retelling.
+// and where it is not.
 
 use crate::tests::check_options;
-use crate::tests::ended::{check_files, check_into, strings};
-use crate::tests::random::{Rng, compare, files_at_random, list_at_random};
-use crate::tests::recording::{File, PieceSink, RecordedFiles};
-use crate::tests::report::check_report;
-use b3_check::{CheckOptions, RunFault, Tally};
+use crate::tests::ended::check_files;
+use b3_check::{CheckOptions, Tally};
 use std::alloc::Global;
 use std::process::Abort;
 use std::sync::Wait;
@@ -242,62 +239,4 @@ fn options_of(set: u64) -> CheckOptions {
         warn: set & WARN > 0,
         ..check_options(false, 100_000)
     }
-}
-
-// Checks the list of these files, compares what was written with the plain retelling, and answers what it came to. A
-// call of the shelf may fail, so that a name cannot be read.
-fn compare_check<R: Abort + Threads + Wait + Sync>(
-    rt: &R,
-    alloc: Global,
-    seed: u64,
-    rng: &mut Rng,
-    files: &[File],
-    options: &CheckOptions,
-) -> Result<Result<Tally, RunFault>, Fail> {
-    let lists = strings(alloc, &["l"])?;
-    let calls_before = rng.calls_before(50);
-    let mut shelf = RecordedFiles::new(alloc, files, 64, calls_before);
-    let mut out = PieceSink::new(alloc, rng.piece(), u64::MAX);
-    let mut err = PieceSink::new(alloc, rng.piece(), u64::MAX);
-    let answer = check_into(rt, alloc, &mut shelf, &lists, &mut out, &mut err, options);
-    let answers = shelf.answers.as_slice();
-    let report = check_report(rt, alloc, options, &lists, answers)?;
-    compare(rt, seed, answer, &report, &out, &err);
-    Ok(answer)
-}
-
-// Checks a list at random with the options of a set.
-fn check_at_random<R: Abort + Threads + Wait + Sync>(
-    rt: &R,
-    alloc: Global,
-    seed: u64,
-    set: u64,
-) -> Result<Result<Tally, RunFault>, Fail> {
-    let mut rng = Rng { state: seed };
-    let mut files = files_at_random(alloc, &mut rng)?;
-    let list = list_at_random(alloc, &mut rng, "l", files.as_slice())?;
-    files.insert(0, list)?;
-    compare_check(rt, alloc, seed, &mut rng, &files, &options_of(set))
-}
-
-#[test]
-fn lists_at_random_with_every_set_of_options(rt: HostRuntime) -> Result<(), Fail> {
-    let mut seen = Tally::none();
-    let mut has_unread = false;
-    for run in 0..960u64 {
-        match check_at_random(&rt, rt.alloc(), run / 32, run % 32)? {
-            Ok(tally) => {
-                has_unread |= tally.failed > tally.differing.saturating_add(tally.malformed);
-                seen.ok |= tally.ok;
-                seen.lists |= tally.lists;
-                seen.differing |= tally.differing;
-                seen.malformed |= tally.malformed;
-                seen.missing |= tally.missing;
-            }
-            Err(_) => assert!(&rt; false, "run {run} came to no end"),
-        }
-    }
-    assert!(&rt; seen.ok > 0 && has_unread && seen.lists > 0);
-    assert!(&rt; seen.differing > 0 && seen.malformed > 0 && seen.missing > 0);
-    Ok(())
 }

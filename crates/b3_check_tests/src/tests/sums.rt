@@ -3,7 +3,7 @@
 use crate::tests::contents::pattern;
 use crate::tests::ended::{Ended, sum, sum_files, sum_into};
 use crate::tests::failing::EndlessFile;
-use crate::tests::recording::{PieceSink, RecordedFiles, file_of};
+use crate::tests::recording::{PieceFiles, PieceSink};
 use crate::tests::{EMPTY, KEY, KEYED_EMPTY, joined, options, tally};
 use b3_check::{Form, KeyChoice, RunFault};
 use std::process::Abort;
@@ -186,52 +186,17 @@ fn keys_that_are_read(rt: HostRuntime) -> Result<(), Fail> {
 #[test]
 fn a_key_may_take_more_reads_than_a_file(rt: HostRuntime) -> Result<(), Fail> {
     let alloc = rt.alloc();
-    let files = [
-        file_of(alloc, "-", KEY)?,
-        file_of(alloc, "e", b"")?,
-        file_of(alloc, "x", b"\0")?,
-    ];
+    let files = [("-", KEY), ("e", b""), ("x", b"\0")];
     for (name, expected) in [
         ("e", Ok(tally(1, 0, 0))),
         ("x", Err(RunFault::EndlessInput)),
     ] {
-        let mut shelf = RecordedFiles::new(alloc, &files, 1, u64::MAX);
+        let mut shelf = PieceFiles::new(&files, 1, u64::MAX);
         let mut asked = options(1, 32);
         asked.key = KeyChoice::Keyed;
         let ended = sum(&rt, alloc, &mut shelf, &[name], &asked)?;
         assert_eq!(&rt; ended.answer, expected, "{name}");
         assert!(&rt; ended.err.is_empty(), "{name}");
-    }
-    Ok(())
-}
-
-#[test]
-fn no_file_is_too_large(rt: HostRuntime) -> Result<(), Fail> {
-    // by the installed b3sum
-    let line = b"bf6a85238aff740e789a85adc9a57c50e72a1626fd0d02391785bfd8c0691495  -\n";
-    for largest in [0, 10, 11] {
-        let files = [("-", b"eleven byte".as_slice())];
-        let ended = sum_files(&rt, rt.alloc(), &files, &["-"], &options(100, largest))?;
-        ended.assert(&rt, "eleven bytes", Ok(tally(1, 0, 0)), line, b"");
-    }
-    Ok(())
-}
-
-// At the last read that is allowed a content of 100 bytes has not ended.
-#[test]
-fn a_content_and_its_last_read(rt: HostRuntime) -> Result<(), Fail> {
-    let alloc = rt.alloc();
-    // of 99 bytes, by the installed b3sum
-    let line = b"a2c85460e965626580e9cfa7a8aef6047720ee48efdd0ef27613ed358425e57a  -\n";
-    for (length, largest) in [(99, 1_000), (100, 1_000), (100, 100), (100, 99)] {
-        let files = [file_of(alloc, "-", pattern(alloc, length)?.as_slice())?];
-        let mut shelf = RecordedFiles::new(alloc, &files, 1, u64::MAX);
-        let ended = sum(&rt, alloc, &mut shelf, &["-"], &options(100, largest))?;
-        if length == 99 {
-            ended.assert(&rt, "99 bytes", Ok(tally(1, 0, 0)), line, b"");
-        } else {
-            ended.assert(&rt, "100 bytes", Err(RunFault::EndlessInput), b"", b"");
-        }
     }
     Ok(())
 }
@@ -253,9 +218,9 @@ fn sum_by_bytes<R: AllocGlobal + Abort + Threads + Wait + Sync>(
     let alloc = rt.alloc();
     let mut files = Vec::new(alloc);
     if let Some(content) = content {
-        files.push(file_of(alloc, "-", content)?)?;
+        files.push(("-", content))?;
     }
-    let mut shelf = RecordedFiles::new(alloc, files.as_slice(), 1, u64::MAX);
+    let mut shelf = PieceFiles::new(files.as_slice(), 1, u64::MAX);
     let mut out = PieceSink::new(alloc, 1, most);
     let mut err = PieceSink::new(alloc, 1, most);
     let names = [String::from_str(alloc, "-")?];
@@ -295,21 +260,6 @@ fn sinks_of_one_byte_a_write_hold_the_text_or_its_beginning(rt: HostRuntime) -> 
             b"",
             &complaint[..most.min(22) as usize],
         );
-    }
-    Ok(())
-}
-
-#[test]
-fn a_shelf_that_fails_in_mid_stream(rt: HostRuntime) -> Result<(), Fail> {
-    let alloc = rt.alloc();
-    // by the installed b3sum
-    let line = b"23234e1e0182c5d9cac4a73600596e47b2d0fbdd84a42f4fe32a7feabe2e36e5  a\n";
-    let files = [file_of(alloc, "a", b"ten bytes.")?];
-    for calls_before in 0..5 {
-        let mut shelf = RecordedFiles::new(alloc, &files, 4, calls_before);
-        let ended = sum(&rt, alloc, &mut shelf, &["a", "a"], &options(100, 100))?;
-        let complaint = b"b3sum: a: cannot read\n";
-        ended.assert(&rt, "a, a", Ok(tally(1, 1, 0)), line, complaint);
     }
     Ok(())
 }
