@@ -25,7 +25,7 @@ class Release:
     @classmethod
     def of_commit(cls):
         """The release of the commit that is checked out, if nothing in the working tree differs from it."""
-        changed = run("git", "status", "--porcelain")
+        changed = run("git", "status", "--porcelain", "--untracked-files=all")
         if changed:
             stop(f"the working tree differs from its commit:\n{changed}")
         version, commit = program_version(), run("git", "rev-parse", "HEAD")
