@@ -17,8 +17,8 @@ class Debian:
 
     def shell(self, text, folder="/release"):
         """Runs a command in a folder of that root, with a /proc of its own."""
-        words = ["unshare", "--mount", "--pid", "--fork", "--kill-child", "chroot", self.root, "sh", "-c",
-                 f"mount -t proc proc /proc; cd {folder} && {text}"]
+        words = ["unshare", "--mount", "--pid", "--fork", "--kill-child", "chroot", self.root, "sh", "-ec",
+                 f"mount -t proc proc /proc; cd {folder}; {text}"]
         path = "/usr/local/sbin:/usr/local/bin:/usr/sbin:/usr/bin:/sbin:/bin"
         return run(*words, PATH=path, DEBIAN_FRONTEND="noninteractive")
 
@@ -55,13 +55,16 @@ def in_debian(checks, release, root):
 
 def ways(release):
     """Each way in which a release is installed and removed, as README.md and the README of the archive say."""
-    files = " ".join(f"./{release.package(name).name}" for name in PACKAGES)
-    unpack = re.search(r"^(?:sudo )?(tar -xzf \S+.*)$", README, re.MULTILINE)[1]
-    unpack = re.sub(r"b3sum-\S+\.tar\.gz", release.archive.name, unpack).replace("sudo ", "")
+    install = re.search(r"\n## Install\n(.*?)\n## ", README, re.DOTALL)[1]
+    install = install.replace("sudo ", "").replace("VERSION", release.version)
+    unpack = re.search(r"```sh\n(.*?)```", install, re.DOTALL)[1]
     remove = re.search(r"tar -tzf .*", text_of(release.prefix / "share/doc/b3sum/README"))[0].replace("sudo ", "")
-    return (("the archive", f"sha256sum --ignore-missing --check SHA256SUMS && {unpack}", remove),
-            ("the packages", f"apt-get install -y {files} && dpkg --verify {' '.join(PACKAGES)}",
-             f"apt-get purge -y {' '.join(PACKAGES)}"))
+    # The program as README.md says it, and then the library.
+    program = re.search(r"`(apt install [^`]+)`", install)[1]
+    files = " ".join(f"./{release.package(name).name}" for name in PACKAGES[1:])
+    names = " ".join(PACKAGES)
+    return (("the archive", unpack, remove),
+            ("the packages", f"{program} -y; apt-get install -y {files}; dpkg --verify {names}", f"apt-get purge -y {names}"))
 
 
 def examples(checks, name, debian):
@@ -74,8 +77,11 @@ def examples(checks, name, debian):
         (folder / file).write_text(file)
     for number, (command, shown) in enumerate(rows):
         status, said = debian.shell(command, "/release/examples")
-        wanted = sorted(shown.splitlines()) or sorted(said.splitlines())
-        checks.expect(f"{name}: {command}", status in (0, 1) and sorted(said.splitlines()) == wanted, (status, said))
+        # Each check finds what is changed below, also where README.md does not show what it says.
+        is_check = "--check" in command
+        is_right = sorted(said.splitlines()) == sorted(shown.splitlines()) or is_check and not shown and "FAILED" in said
+        is_right = is_right and status == is_check
+        checks.expect(f"{name}: {command}", is_right, (status, said))
         if number == 0:
             # Between the list and its check one file is changed, and one removed.
             (folder / "release.tar").write_text("changed")
