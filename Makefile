@@ -66,8 +66,8 @@ b3sum.cpu libb3.cpu: force
 b3sum: $(SOURCES) b3sum.cpu
 	tools/prove b3sum $(FLAGS)
 
-# Where no level is asked for, what is built is installed, of whatever level it is.
-install: CPU := $(shell cat b3sum.cpu 2>/dev/null || echo $(CPU))
+# Where no level is asked for, what is built is installed and tested, of whatever level it is.
+install compare faults refused soak imports: CPU := $(shell cat b3sum.cpu 2>/dev/null || echo $(CPU))
 install: b3sum install-texts
 	$(INSTALL) -d $(DESTDIR)$(PREFIX)/bin
 	$(INSTALL) -m 755 b3sum $(DESTDIR)$(PREFIX)/bin/b3sum
@@ -102,7 +102,7 @@ libb3.so.0: libb3.a
 libb3.so: libb3.so.0
 	ln -sf $< $@
 
-install-lib: CPU := $(shell cat libb3.cpu 2>/dev/null || echo $(CPU))
+install-lib lib-test: CPU := $(shell cat libb3.cpu 2>/dev/null || echo $(CPU))
 install-lib: lib
 	$(INSTALL) -d $(DESTDIR)$(PREFIX)/lib/pkgconfig $(DESTDIR)$(PREFIX)/include/b3
 	$(INSTALL) -m 644 libb3.a $(DESTDIR)$(PREFIX)/lib/libb3.a
