@@ -1,5 +1,5 @@
-# make              proves the program, and builds ./b3sum for this processor; with CPU=x86-64-v2 for any x86-64 processor
-#                   since 2009
+# make              proves the program, and builds ./b3sum for this processor; with CPU=x86-64-v2 for all that have SSE 4.2,
+#                   as most x86-64 processors since 2009
 # make install      installs it, its manual page and its completions for bash, zsh and fish below PREFIX, which is
 #                   /usr/local; make uninstall removes them
 # make lib          proves the hasher, and builds it as a C library, libb3.a and libb3.so, for this processor or CPU

@@ -159,7 +159,7 @@ def statement(checks, release):
     checks.expect("the version names the commit", "~" not in release.version or release.version.endswith(f".{commit[:7]}"))
     checks.expect("the statement names the kit", "kit" in said, text)
     checks.expect("the statement speaks of the gate", said.get("gate") in (GATE_PASSED, GATE_NOT_RUN), text)
-    checks.say(f"the statement says of the gate: {said.get('gate')}")
+    checks.say(f"the statement is of commit {commit}, and says of the gate: {said.get('gate')}")
     for level in LEVELS:
         for product in ("b3sum.o", "libb3.a"):
             line = rf"^  {level}/{product}: logic=proved .*\bcpu={level}\b"
@@ -167,7 +167,8 @@ def statement(checks, release):
 
 
 def objects(checks, release):
-    """The objects are those of the statement, and link to the program and the libraries of the release."""
+    """The objects are those of the statement. They link to the archive's program and to the libraries, in both of which the
+    static one is an object."""
     folder = release.work / "objects"
     with tarfile.open(release.archive.with_name(release.archive.name.replace(".tar.gz", "-objects.tar.gz"))) as archive:
         archive.extractall(release.work)
@@ -179,10 +180,15 @@ def objects(checks, release):
         return
     said = run("./link", cwd=folder)
     checks.expect("the objects are linked again", said == (0, ""), said)
-    for made, path in (("b3sum", "bin/b3sum"), ("x86-64-v2/libb3.so.0", "lib/libb3.so.0"),
-                       ("x86-64-v3/libb3.so.0", "lib/glibc-hwcaps/x86-64-v3/libb3.so.0")):
-        is_same = (release.prefix / path).exists() and sha256(folder / made) == sha256(release.prefix / path)
-        checks.expect(f"linked again: {made}", is_same, "with another compiler, binutils or C library it may differ")
+    archive, packages = release.prefix / "lib", release.installed / "usr" / DEBIAN_LIB
+    rows = [("b3sum", release.prefix / "bin/b3sum")]
+    for lib in archive, packages:
+        rows += [("x86-64-v2/libb3.a", lib / "libb3.a"), ("x86-64-v2/libb3.so.0", lib / "libb3.so.0"),
+                 ("x86-64-v3/libb3.so.0", lib / "glibc-hwcaps/x86-64-v3/libb3.so.0")]
+    for made, path in rows:
+        is_same = path.exists() and sha256(folder / made) == sha256(path)
+        what = f"linked again: {made} of the {'packages' if packages in path.parents else 'archive'}"
+        checks.expect(what, is_same, "with another compiler, binutils or C library it may differ")
 
 
 def texts(checks, release):

@@ -21,15 +21,16 @@ Replaces: b3sum
 Description: BLAKE3 checksums, by a program that is proved
  Writes BLAKE3 checksums of files, and checks them, as sha256sum does for
  SHA-256. Every step from the bytes that are read to the line that is printed
- is proved. It needs an x86-64 processor since 2009, and uses AVX2.
+ is proved. It needs a processor with SSE 4.2 (x86-64-v2), as most since 2009
+ have, and uses AVX2 where that is there.
 """
 LIBRARY = """Section: libs
 Multi-Arch: same
 Depends: libc6 (>= {glibc})
 Description: BLAKE3 hashes, by a C library whose code is proved
  The library hashes by the calls of the BLAKE3 project's blake3.h. It allocates
- no memory and starts no thread. It needs an x86-64 processor since 2009, and
- uses AVX2.
+ no memory and starts no thread. It needs a processor with SSE 4.2
+ (x86-64-v2), as most since 2009 have, and uses AVX2 where that is there.
 """
 DEVELOPMENT = """Section: libdevel
 Depends: libb3-0 (= {version})

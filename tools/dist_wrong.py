@@ -119,6 +119,11 @@ def another_object(it):
         longer(root / "x86-64-v2/b3sum.o")
 
 
+def another_static_library(it):
+    with it.package("libb3-dev") as root:
+        longer(root / "usr" / DEBIAN_LIB / "libb3.a")
+
+
 # A wrong release, the test that is to find it out, and what makes it.
 WRONG = [
     ("the archive: always v3", "the archive's program: digest without AVX2", lambda it: chosen(it, ALWAYS_V3)),
@@ -152,4 +157,5 @@ WRONG = [
     ("a statement without the gate", "the statement speaks of the gate",
      lambda it: changed(it, "share/doc/b3sum/PROOF", "\ngate ", "\nnothing ")),
     ("another object", "sum of x86-64-v2/b3sum.o", another_object),
+    ("another static library in a package", "linked again: x86-64-v2/libb3.a of the packages", another_static_library),
 ]
