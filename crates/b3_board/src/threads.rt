@@ -39,8 +39,9 @@ fn all_from<R: Threads + Sync, T: Send, F: Fn(usize, &mut T) + Sync>(
     one_beside_rest(rt, f, base, first, rest);
 }
 
-// The first in a thread of its own, while this one starts those for the others. It is not inlined: else this thread, where it
-// starts an odd number of others, would have the vectors of the code on lanes 16 bytes past a multiple of 32.
+// The first in a thread of its own, while this one starts those for the others. Its frame is no multiple of 32 bytes. As it is
+// not inlined, there is one for each thread that this one starts: so where these are even in number, the vectors of the code
+// on lanes lie in this thread as in those.
 #[cycle(chain)]
 #[inline(never)]
 fn one_beside_rest<R: Threads + Sync, T: Send, F: Fn(usize, &mut T) + Sync>(

@@ -107,7 +107,8 @@ impl NameHasher {
         request.message(self.alloc, Ok(self.digest.as_slice())).ok()
     }
 
-    // The output of the whole content of a name, if it is soon read and not too long.
+    // The output of the whole content of a name, if it is soon read and not too long. It is not inlined: by its frame helpers
+    // have the vectors of the code on lanes at multiples of 32 bytes.
     #[inline(never)]
     fn output_of<S: Shelf>(
         &mut self,

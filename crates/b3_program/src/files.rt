@@ -118,7 +118,9 @@ fn is_short_file(kind: io::Result<FileKind>, max_len: u64) -> bool {
 }
 
 // Has a file of at most so many bytes hashed, piece by piece, and answers whether it has. One that tells no byte may have
-// some, as those of `/proc`: it is read until a read gives none.
+// some, as those of `/proc`: it is read until a read gives none. It is not inlined, so that the stack above the code on lanes
+// does not depend on what this stands in.
+#[inline(never)]
 fn hash_file<F: DiskFile>(
     file: &F,
     len: u64,
