@@ -23,7 +23,7 @@ inner-preserved c = record {
       let long = length-take 1024 (drop (1024 * j) bytes) in
       let rest = length-drop (1024 * j) bytes in
       let room = c.requires.bytes j lt in
-      c.chainings8-next.ensures.lanes j number lt (c.counters_from.ensures.low j lt) (c.counters_from.ensures.high j lt)
+      c.chainings8-next.ensures.lanes j number lt (c.requires.low j lt) (c.requires.high j lt)
       ∙ ap (λ d. take 8 (compress (lane j c.inner.value) m number 64 d)) c.full_chunk_flags-flags.ensures
       ∙ after_blocks-suc c.args.mode.now number chunk k (lane j c.inner.value) m
       (omega (arith, long, rest, room, begins)) (omega (arith, long)) (cases_eq k 15)
