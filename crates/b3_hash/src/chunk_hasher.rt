@@ -116,14 +116,32 @@ impl ChunkHasher {
     // any closer.
     #[inline]
     pub(crate) fn has_room_in_block(&self, count: usize) -> bool
+        ensures block { IsTrue result → length self.now.chunk_state.block + count ≤ 64 }
         ensures chunk { IsTrue result → chunk_state_len self.now.chunk_state + count ≤ 1024 }
         ensures input { IsTrue result → chunks_len self.now + count < 2 ^ 64 }
     {
         self.closed.chunks < LAST_CHUNK && self.last.has_room(count)
     }
 
-    // Takes in bytes of the open chunk.
-    #[inline]
+    // Takes in bytes that the open block has room for: a copy of them, and no more. It is not inlined, so that an update for
+    // which this is not all saves no registers for it.
+    #[inline(never)]
+    pub(crate) fn extend_block(&mut self, front: &[u8])
+        requires block { length self.old.chunk_state.block + length front.now ≤ 64 }
+        requires room { chunk_state_len self.old.chunk_state + length front.now ≤ 1024 }
+        requires fits { chunks_len self.old + length front.now < 2 ^ 64 }
+        ensures mode { self.new.mode ≡ self.old.mode }
+        ensures len { chunks_len self.new ≡ chunks_len self.old + length front.now }
+        ensures chunk_state { chunk_state_len self.new.chunk_state
+            ≡ chunk_state_len self.old.chunk_state + length front.now }
+        ensures ends_with { (before : List ℕ) → EndsWithChunk self.old before
+            → EndsWithChunk self.new (before ++ front.now) }
+    {
+        self.last.extend_block(front);
+    }
+
+    // Takes in bytes of the open chunk. It is inlined with all that it does, as short pieces feel each call.
+    #[inline(always)]
     pub(crate) fn extend_chunk(&mut self, front: &[u8])
         requires room { chunk_state_len self.old.chunk_state + length front.now ≤ 1024 }
         requires fits { chunks_len self.old + length front.now < 2 ^ 64 }

@@ -130,7 +130,7 @@ impl Hasher {
         ensures unchanged { OnErr result (self.new ≡ self.old) }
     {
         if self.window.is_none() && self.chunks.has_room_in_block(input.len()) {
-            self.chunks.extend_chunk(input);
+            self.chunks.extend_block(input);
             return Ok(());
         }
         self.update_past_block(input)

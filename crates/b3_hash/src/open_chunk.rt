@@ -99,7 +99,7 @@ impl OpenChunk {
     }
 
     // Appends bytes to the open block, which has room for them.
-    fn extend_block(&mut self, piece: &[u8])
+    pub(crate) fn extend_block(&mut self, piece: &[u8])
         requires block { self.old.block_len + length piece.now ≤ 64 }
         requires chunk { 64 * self.old.closed_blocks + self.old.block_len + length piece.now ≤ 1024 }
         ensures blocks { self.new.closed_blocks ≡ self.old.closed_blocks }
@@ -107,6 +107,9 @@ impl OpenChunk {
         ensures bytes { (mode : Mode) (number : ℕ) (bytes : List ℕ)
             → HasBytes mode number (chunk_state_of self.old) bytes
             → HasBytes mode number (chunk_state_of self.new) (bytes ++ piece.now) }
+        ensures chunk_state { (mode : Mode) (number : ℕ) (bytes : List ℕ)
+            → IsChunkState mode number (chunk_state_of self.old) bytes
+            → IsChunkState mode number (chunk_state_of self.new) (bytes ++ piece.now) }
     {
         let end = self.block_len + piece.len();
         self.block[self.block_len..end].copy_from_slice(piece);
@@ -154,7 +157,7 @@ impl OpenChunk {
 
     // Appends bytes to the chunk. A full block is closed only when a further byte comes, so that it can
     // be the last.
-    #[inline]
+    #[inline(always)]
     pub(crate) fn append(&mut self, mode: &Mode, number: u64, bytes: &[u8])
         requires { 64 * self.old.closed_blocks + self.old.block_len + length bytes.now ≤ 1024 }
         ensures len { 64 * self.new.closed_blocks + self.new.block_len
@@ -169,8 +172,8 @@ impl OpenChunk {
         self.append_past_block(mode, number, bytes);
     }
 
-    // The same of bytes that the open block has no room for. It is not inlined, so that little is done where there is room.
-    #[inline(never)]
+    // The same of bytes that the open block has no room for.
+    #[inline(always)]
     fn append_past_block(&mut self, mode: &Mode, number: u64, bytes: &[u8])
         requires more { 64 < self.old.block_len + length bytes.now }
         requires chunk { 64 * self.old.closed_blocks + self.old.block_len + length bytes.now ≤ 1024 }

@@ -1,9 +1,9 @@
-use Rattle.std.proofs.Common.{◌≡◌, ℕ, ◌+◌, ◌-◌, ap, sym, take, drop, replicate, ◌∙◌, ◌++◌, length, arith, refl}
+use Rattle.std.proofs.Common.{◌≡◌, ℕ, ◌+◌, ◌-◌, ◌≤◌, ap, sym, take, drop, replicate, ◌∙◌, ◌++◌, length, arith, refl}
 use Rattle.std.proofs.lemmas.Slice.{drop-put_mid, take-put_mid}
-use Rattle.std.proofs.lemmas.List.{drop-drop, drop-replicate}
+use Rattle.std.proofs.lemmas.List.{drop-drop, drop-replicate, length-take}
 use borrow.Rule.Slice.PartMut.{put_mid}
 use Rattle.b3_hash.specs.Private.{chunk_state_of}
-use Rattle.b3_hash.proofs.ChunkStates.{HasBytes-append}
+use Rattle.b3_hash.proofs.ChunkStates.{HasBytes-append, IsChunkState-within}
 use Rattle.b3_hash.proofs.open_chunk.OpenChunk.extend_block.Goals as goal
 
 pub returns-clause-bytes : goal.returns-clause-bytes
@@ -17,6 +17,15 @@ returns-clause-bytes c = λ mode number bytes held.
     HasBytes-append mode number (chunk_state_of self) bytes piece _ held
     (ap (λ ys. take end (put_mid self.block_len (end - self.block_len) self.block ys))
     c.copy_from_slice.ensures.after ∙ placed)
+
+pub returns-clause-chunk_state : goal.returns-clause-chunk_state
+returns-clause-chunk_state c = λ mode number bytes chunk_state.
+    let self = c.args.self.now in
+    let end = self.block_len + length c.args.piece.now in
+    let after = put_mid self.block_len (end - self.block_len) self.block c.copy_from_slice.new.self in
+    let fits : length (take end after) ≤ 64 = omega (arith, length-take end after, c.requires.block) in
+    IsChunkState-within mode number (chunk_state_of self) _ bytes c.args.piece.now chunk_state
+    (returns-clause-bytes c mode number bytes chunk_state.has_bytes) refl fits
 
 pub invariant_of-self-clause-padding : goal.invariant_of-self-clause-padding
 invariant_of-self-clause-padding c =
