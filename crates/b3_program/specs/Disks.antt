@@ -1,7 +1,9 @@
 -- What files and streams give, where they tell their bytes.
-use Rattle.std.specs.Prelude.{◌≡◌, ◌↔◌, ◌⊎◌, ℕ, ◌+◌, List, drop, take, Result, Ok, Err, IfOk}
+use Rattle.std.specs.Prelude.{⊤, ◌≡◌, ◌↔◌, ◌⊎◌, ℕ, ◌+◌, List, drop, take, Result, Ok, Err, IfOk}
 use Rattle.std.specs.declared.io.ErrorKind.{ErrorKind}
 use Rattle.std.specs.declared.io.ErrorKind.TheVariants.{NotFound, NotADirectory}
+use Rattle.b3_program.specs.declared.disk.FileKind.{FileKind}
+use Rattle.b3_program.specs.declared.disk.FileKind.TheVariants.{Plain, Folder, Other}
 use Rattle.b3_check.specs.declared.shelf.NoContent.{NoContent}
 use Rattle.b3_check.specs.declared.shelf.NoContent.TheVariants.{Missing}
 use Rattle.b3_check.specs.Contents.{Gives}
@@ -25,3 +27,9 @@ pub record IsRefusedBy (fails_by : ErrorKind → Type 0) (why : NoContent) : Typ
   pub kind : ErrorKind
   pub may : fails_by kind
   pub missing : (why ≡ Missing) ↔ IsOfMissing kind
+
+-- a plain file tells this length
+abbrev pub TellsLen : FileKind → ℕ → Type 0
+TellsLen (Plain told) len = told ≡ len
+TellsLen Folder len = ⊤
+TellsLen Other len = ⊤

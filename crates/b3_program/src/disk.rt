@@ -5,7 +5,7 @@ ghost use Rattle.std.specs.Io.{ReadsAtMost};
 ghost use Rattle.std.specs.IoError.{error_kind};
 ghost use Rattle.std.specs.declared.io.ErrorKind.{ErrorKind};
 ghost use Rattle.b3_check.specs.Contents.{Contents};
-ghost use Rattle.b3_program.specs.Disks.{IsOfMissing, ReadsAt, count_of};
+ghost use Rattle.b3_program.specs.Disks.{IsOfMissing, ReadsAt, TellsLen, count_of};
 
 use std::io;
 
@@ -46,7 +46,7 @@ pub trait DiskFile: Stream {
 /// What stands under a name.
 #[derive(Clone, Copy, Debug, PartialEq, Eq)]
 pub enum FileKind {
-    /// A plain file, and the length that it tells, of which nothing is promised.
+    /// A plain file, and the length that it tells, of which nothing is promised, but where files tell their bytes.
     Plain(u64),
     /// A folder.
     Folder,
@@ -75,6 +75,8 @@ pub trait Disk {
 
     /// What stands under this name, behind its links. It is not opened, so that nothing is waited for.
     fn kind(&self, name: &str) -> io::Result<FileKind>
+        ensures len { IsTrue Self.File.tells → (content : List ℕ) → contents self.now name.now ≡ Some content
+            → IfOk result (λ kind. TellsLen kind (length content)) }
         ensures missing { IsTrue Self.File.tells
             → IfErr result (λ error. IsOfMissing (error_kind error) → contents self.now name.now ≡ None) }
         ensures error { IfErr result (λ error. fails_by self.now name.now (error_kind error)) };

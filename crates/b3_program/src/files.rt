@@ -112,11 +112,6 @@ fn lasting_lack(error: &io::Error) -> Option<NoContent>
     }
 }
 
-// Whether a name is one of a plain file that tells at most so many bytes.
-fn is_short_file(kind: io::Result<FileKind>, max_len: u64) -> bool {
-    matches!(kind, Ok(FileKind::Plain(len)) if len <= max_len)
-}
-
 // Has a file of at most so many bytes hashed, piece by piece, and answers whether it has. One that tells no byte may have
 // some, as those of `/proc`: it is read until a read gives none. It is not inlined, so that the stack above the code on lanes
 // does not depend on what this stands in.
@@ -232,19 +227,18 @@ impl<D: Disk, I: Input> Shelf for FileShelf<D, I> {
         Ok(count)
     }
 
-    // Of a plain file, and of no other. The name is asked first, since a FIFO would wait to be opened; then the open file,
-    // which may be another by then, and would wait to be read.
+    // Of a plain file, and of no other. The name is asked first, since a FIFO would wait to be opened.
     fn hash_whole(&self, name: &str, max_len: u64, buffer: &mut [u8], hasher: &mut Hasher) -> bool {
-        if name == INPUT_NAME || !is_short_file(self.disk.kind(name), max_len) {
+        let Ok(FileKind::Plain(len)) = self.disk.kind(name) else {
+            return false;
+        };
+        if name == INPUT_NAME || len > max_len {
             return false;
         }
         let Ok(file) = self.disk.open(name) else {
             return false;
         };
-        let Some(len) = file.plain_len() else {
-            return false;
-        };
-        len <= max_len && hash_file(&file, len, max_len, buffer, hasher)
+        hash_file(&file, len, max_len, buffer, hasher)
     }
 
     // A plain file alone is opened for it, as any other may wait for that. A folder opens, and its first read fails.

@@ -111,8 +111,8 @@ pub struct System<'a> {
     pub closed: &'a str,
     /// Whether a folder stands under each name by the time that it is opened.
     pub is_replaced: bool,
-    /// Whether each file tells that it has no byte.
-    pub tells_none: bool,
+    /// The length that each file tells, where that is not the one that it has.
+    pub told: Option<u64>,
     pub reads: Reads,
     open: AtomicU64,
     overlapping: AtomicU64,
@@ -124,7 +124,7 @@ impl<'a> System<'a> {
             files,
             closed: "closed",
             is_replaced: false,
-            tells_none: false,
+            told: None,
             reads,
             open: AtomicU64::new(0),
             overlapping: AtomicU64::new(0),
@@ -139,10 +139,10 @@ impl<'a> System<'a> {
         }
     }
 
-    /// One in which each file tells that it has no byte.
-    pub fn untold(files: &'a [NamedFile<'a>]) -> System<'a> {
+    /// One in which each file tells this length.
+    pub fn telling(files: &'a [NamedFile<'a>], len: u64) -> System<'a> {
         System {
-            tells_none: true,
+            told: Some(len),
             ..System::new(files, Reads::plain())
         }
     }
@@ -154,11 +154,7 @@ impl<'a> System<'a> {
 
     // What a file of this content tells.
     fn metadata_of(&self, content: &[u8]) -> Metadata {
-        Metadata::of_file(if self.tells_none {
-            0
-        } else {
-            content.len() as u64
-        })
+        Metadata::of_file(self.told.unwrap_or(content.len() as u64))
     }
 
     // The content of the file of this name, to the character.
@@ -229,6 +225,9 @@ impl<R: Abort> Seek for FakeFile<'_, R> {
 
 impl<R: Abort> FileExt for FakeFile<'_, R> {
     fn read_at(&self, buf: &mut [u8], offset: u64) -> io::Result<usize> {
+        if self.system.is_replaced {
+            return Err(io::Error::from(ErrorKind::IsADirectory));
+        }
         self.system.reads.read(rest_from(self.content, offset), buf)
     }
 

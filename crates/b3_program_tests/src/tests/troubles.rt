@@ -293,18 +293,21 @@ fn an_empty_file_is_hashed_beside_others(rt: HostRuntime) {
     }
 }
 
-// One that tells no byte and has some is read until a read gives none.
+// One that tells another length than it has, as those of `/proc` and one that was changed meanwhile, is read until a read
+// gives none.
 #[test]
-fn a_file_that_tells_no_length_is_hashed_beside_others(rt: HostRuntime) {
-    let system = System::untold(&FILES);
-    assert_files(&rt, &system, &[HashWhole("a", u64::MAX, Some(FOUR))]);
-    assert_eq!(rt; system.reads.calls(), 2);
+fn a_file_that_tells_another_length_is_hashed_whole(rt: HostRuntime) {
+    for (told, calls) in [(0, 2), (3, 2), (4, 1), (5, 2), (1 << 20, 2)] {
+        let system = System::telling(&FILES, told);
+        assert_files(&rt, &system, &[HashWhole("a", u64::MAX, Some(FOUR))]);
+        assert_eq!(rt; system.reads.calls(), calls);
+    }
 }
 
-// Of a file that a folder replaced after its name was asked, no byte is read: what stands under a name by the time that
-// it is opened is asked again, since a FIFO or a device would wait to be read.
+// The read of a folder that replaced a file after its name was asked fails. So does one at an offset of a FIFO, a socket or
+// a terminal: none of them is waited for.
 #[test]
-fn a_file_that_was_replaced_is_not_looked_at(rt: HostRuntime) {
+fn a_file_that_was_replaced_is_not_hashed(rt: HostRuntime) {
     let system = System::replaced(&FILES);
     assert_files(&rt, &system, &[HashWhole("a", 8, None)]);
     assert_eq!(rt; system.reads.calls(), 0);
