@@ -14,13 +14,12 @@ use Rattle.b3_core.specs.declared.spans.Span.{Span}
 use Rattle.b3_board.specs.declared.entries.Entry.{Entry}
 use Rattle.b3_board.specs.Entries.{at, fresh, nothing, has_chunk, kept_count, open_count, open_spans, pieces, is_kept, FitsState, Lawful}
 use Rattle.b3_board.specs.Plans.{IsCutting, IsCuttingTo, grain_span, grain_spans}
-use Rattle.b3_board.specs.Spans.{KnownInput, IsSubtreeSpan, chunk_in, part}
+use Rattle.b3_board.specs.Spans.{KnownInput, IsSubtreeSpan, chunk_in}
 use Rattle.std.proofs.lemmas.Nat.{pow_pos, div-add-mod', mul-le}
 use Rattle.std.proofs.Math.Nat.{lt-div-mul-add, pow-le-pow_right}
 use Rattle.std.specs.Int.{IsPowerOfTwo, div_ceil}
 use Rattle.b3_core.proofs.Grid.{IsSubtree-from_InGrid}
 use Rattle.b3_core.proofs.Powers.{double, exponent, lower_multiple, next_power}
-use Rattle.b3_board.proofs.SpanBytes.{part-length}
 use Rattle.b3_core.proofs.Siblings.{IsSubtree-had}
 use Rattle.b3_board.proofs.Steps.{has_sum}
 

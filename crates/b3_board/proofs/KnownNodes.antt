@@ -72,55 +72,23 @@ front_part k a l xs ys is same =
     ∙ ap (λ (n : ℕ). drop (1024 * a) (take n ys)) (sym is)
     ∙ drop-take (1024 * a) (1024 * l) ys
 
--- the node of a subtree from those of its two children, each of bytes that the input may have
-pub IsNodeOf-joined : (input : KnownInput) (mode : Mode) (first a l b r : ℕ) (x y : Node)
-    → AreChildren (chunks input.len) a l b r
+-- the node of a span from those of its two parts, each of bytes that the input may have: where, of all such bytes, the top
+-- of the whole is the parent of theirs
+IsNodeOf-parts : (input : KnownInput) (mode : Mode) (first a l b r : ℕ) (x y : Node) → b ≡ a + l → 1024 * b ≤ input.len
+    → ((all : List ℕ) → length all ≡ input.len → top mode (first + a) (part all a (l + r))
+    ≡ parent_node mode
+    (chaining (top mode (first + a) (part all a l)))
+    (chaining (top mode (first + b) (part all b r))))
     → IsNodeOf input mode first (record { first = a; count = l }) x
     → IsNodeOf input mode first (record { first = b; count = r }) y
     → IsNodeOf input mode first (record { first = a; count = l + r }) (parent_node mode (chaining x) (chaining y))
-IsNodeOf-joined input mode first a l b r x y kids x_is y_is =
+IsNodeOf-parts input mode first a l b r x y next short whole x_is y_is =
     let xs = x_is.bytes in
     let ys = y_is.bytes in
-    let x_may = x_is.may_be in
-    let y_may = y_is.may_be in
-    let n = chunks input.len in
-    let kid = Kids-from_AreChildren n a l b r (omega arith) kids in
     let k = 1024 * b in
-    let short : k ≤ input.len = omega (arith, kid.ends, kid.some) in
-    let x_short : k ≤ length xs = omega (arith, x_may.len_is) in
+    let x_short : k ≤ length xs = omega (arith, x_is.may_be.len_is) in
     let all = spliced k xs ys in
-    let may = MayBe-spliced input k xs ys short x_may y_may in
-    let same : input.len ≡ length all = sym may.len_is in
-    let kids_all = subst (λ (m : ℕ). AreChildren (chunks m) a l b r) same kids in
-    let front : part all a l ≡ part xs a l =
-    front_part k a l all xs (omega (arith, kid.next)) (take-spliced k xs ys x_short) in
-    let back : part all b r ≡ part ys b r = ap (take (1024 * r)) (drop-spliced k xs ys x_short) in
-    let left : x ≡ top mode (first + a) (part all a l) = x_is.is_top ∙ ap (top mode (first + a)) (sym front) in
-    let right : y ≡ top mode (first + b) (part all b r) = y_is.is_top ∙ ap (top mode (first + b)) (sym back) in
-    record {
-      bytes = all;
-      may_be = may;
-      is_top = (λ i. parent_node mode (chaining (left i)) (chaining (right i)))
-          ∙ sym (top-part all mode first a l b r kids_all);
-    }
-
--- the same of bytes in a row that are halved as a tree of their own is, whether or not this is one of the input's
-pub IsNodeOf-halves : (input : KnownInput) (mode : Mode) (first a l b r : ℕ) (x y : Node)
-    → b ≡ a + l → IsLeft (l + r) l → 0 < r → b + r ≤ chunks input.len
-    → IsNodeOf input mode first (record { first = a; count = l }) x
-    → IsNodeOf input mode first (record { first = b; count = r }) y
-    → IsNodeOf input mode first (record { first = a; count = l + r }) (parent_node mode (chaining x) (chaining y))
-IsNodeOf-halves input mode first a l b r x y next is_left some inside x_is y_is =
-    let xs = x_is.bytes in
-    let ys = y_is.bytes in
-    let x_may = x_is.may_be in
-    let y_may = y_is.may_be in
-    let k = 1024 * b in
-    let left_some : 0 < l = omega (arith, is_left.1) in
-    let short : k ≤ input.len = omega (arith, inside, some) in
-    let x_short : k ≤ length xs = omega (arith, x_may.len_is, short) in
-    let all = spliced k xs ys in
-    let may = MayBe-spliced input k xs ys short x_may y_may in
+    let may = MayBe-spliced input k xs ys short x_is.may_be y_is.may_be in
     let front : part all a l ≡ part xs a l =
     front_part k a l all xs (omega (arith, next)) (take-spliced k xs ys x_short) in
     let back : part all b r ≡ part ys b r = ap (take (1024 * r)) (drop-spliced k xs ys x_short) in
@@ -129,9 +97,29 @@ IsNodeOf-halves input mode first a l b r x y next is_left some inside x_is y_is 
     record {
       bytes = all;
       may_be = may;
-      is_top = (λ i. parent_node mode (chaining (left i)) (chaining (right i)))
-          ∙ sym (top-halves all mode first a l b r next is_left some (omega (arith, inside, may.len_is)));
+      is_top = (λ i. parent_node mode (chaining (left i)) (chaining (right i))) ∙ sym (whole all may.len_is);
     }
+
+-- the node of a subtree from those of its two children
+pub IsNodeOf-joined : (input : KnownInput) (mode : Mode) (first a l b r : ℕ) (x y : Node)
+    → AreChildren (chunks input.len) a l b r
+    → IsNodeOf input mode first (record { first = a; count = l }) x
+    → IsNodeOf input mode first (record { first = b; count = r }) y
+    → IsNodeOf input mode first (record { first = a; count = l + r }) (parent_node mode (chaining x) (chaining y))
+IsNodeOf-joined input mode first a l b r x y kids =
+    let kid = Kids-from_AreChildren (chunks input.len) a l b r (omega arith) kids in
+    IsNodeOf-parts input mode first a l b r x y kid.next (omega (arith, kid.ends, kid.some))
+    (λ all same. top-part all mode first a l b r (subst (λ (m : ℕ). AreChildren (chunks m) a l b r) (sym same) kids))
+
+-- the same of bytes in a row that are halved as a tree of their own is, whether or not this is one of the input's
+pub IsNodeOf-halves : (input : KnownInput) (mode : Mode) (first a l b r : ℕ) (x y : Node)
+    → b ≡ a + l → IsLeft (l + r) l → 0 < r → b + r ≤ chunks input.len
+    → IsNodeOf input mode first (record { first = a; count = l }) x
+    → IsNodeOf input mode first (record { first = b; count = r }) y
+    → IsNodeOf input mode first (record { first = a; count = l + r }) (parent_node mode (chaining x) (chaining y))
+IsNodeOf-halves input mode first a l b r x y next is_left some inside =
+    IsNodeOf-parts input mode first a l b r x y next (omega (arith, inside, some))
+    (λ all same. top-halves all mode first a l b r next is_left some (omega (arith, inside, same)))
 
 -- the root of an input that is told is the top of its bytes
 pub IsRootOf-told : (input : KnownInput) (mode : Mode) (first : ℕ) (node : Node) → IsRootOf input mode first node

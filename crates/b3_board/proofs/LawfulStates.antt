@@ -10,7 +10,7 @@ use Rattle.b3_core.specs.Tree.{chunks}
 use Rattle.b3_core.specs.declared.modes.Mode.{Mode}
 use Rattle.b3_core.specs.declared.nodes.Node.{Node}
 use Rattle.b3_core.specs.declared.spans.Span.{Span}
-use Rattle.b3_board.specs.Entries.{FitsState, Lawful, at, has_chunk, if_kept, if_open, is_joined, is_kept, kept_chunk, kept_count, nothing, open_span, open_spans, piece_of, pieces, some_open, some_piece}
+use Rattle.b3_board.specs.Entries.{FitsState, KeepsBoard, Lawful, at, has_chunk, if_kept, if_open, is_joined, is_kept, kept_chunk, kept_count, nothing, open_span, open_spans, piece_of, pieces, some_open, some_piece}
 use Rattle.b3_board.specs.BoardStates.{HasTopsOf, IsLawful, BoardState, Piece}
 use Rattle.b3_board.specs.Spans.{IsNodeOf, IsSubtreeSpan, KnownInput, chunk_in, in_memory, coverage, top_of}
 use Rattle.b3_board.specs.declared.entries.Entry.{Entry}
@@ -203,6 +203,12 @@ module _ (input : KnownInput) (mode : Mode) (first : ℕ) (es : List Entry) (law
     booked = sum_kept (λ (s : Span). s.count) es ∙ booked;
     whole = omega (arith, booked, sum_open (λ (s : Span). s.count) es, lawful.sound.all);
   }
+
+-- and so is the board that is seen of what a board keeps
+pub IsLawful-seen : {input : KnownInput} {mode : Mode} {first grain book : ℕ} {sure : Type 0} {es : List Entry}
+    {missed : Bool} {board : BoardState} → KeepsBoard input mode first grain sure es book missed
+    → state_of input mode first es book ≡ board → IsLawful board
+IsLawful-seen kept seen = subst IsLawful seen (lawful_state _ _ _ _ kept.lawful _ kept.booked)
 
 -- over an input in memory, each piece of a lawful board has the top of the input's own chunks in its span
 pub IsLawful-in_memory : (input : List ℕ) (board : BoardState) → board.input ≡ in_memory input → IsLawful board

@@ -13,7 +13,7 @@ use Rattle.b3_core.specs.declared.spans.Span.{Span}
 use Rattle.b3_board.specs.declared.entries.Entry.{Entry}
 use Rattle.b3_board.specs.declared.entries.State.{State}
 use Rattle.b3_board.specs.declared.entries.State.TheVariants.{Open, Kept, Joined}
-use Rattle.b3_board.specs.Entries.{at, nothing, has_chunk, kept_chunk, kept_count, open_count, open_span, if_kept, if_open, some_open, is_kept, is_joined, AreChildEntries, IsInOrder, FitsState, KeepsTop, Sound, Lawful, Apart, ApartBut, IsJoined, joined, closed, widened, emptied, kept_node}
+use Rattle.b3_board.specs.Entries.{at, nothing, has_chunk, kept_chunk, kept_count, open_count, open_span, if_kept, if_open, some_open, is_kept, is_joined, AreChildEntries, IsInOrder, FitsState, KeepsTop, Sound, Lawful, ApartBut, IsJoined, joined, closed, widened, emptied, kept_node}
 use Rattle.b3_board.specs.Spans.{IsNodeOf, IsSubtreeSpan, KnownInput, chunk_in}
 use Rattle.b3_board.proofs.KnownNodes.{IsNodeOf-joined}
 use Rattle.b3_board.proofs.Partners.{what_is_kept}

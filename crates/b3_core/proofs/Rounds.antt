@@ -1,9 +1,9 @@
--- A round, with the four Gs on the columns step by step together, and then those on the diagonals.
-use Rattle.std.proofs.Common.{◌≡◌, ℕ, List, get_or, length, map, refl, sym, ap, ◌∙◌}
+-- A round, with the four Gs on the columns step by step together, and then those on the diagonals; rounds one by one.
+use Rattle.std.proofs.Common.{◌≡◌, ℕ, suc, List, get_or, length, map, refl, sym, ap, ◌∙◌}
 use Rattle.std.specs.List.{range_with_len}
 use Rattle.std.proofs.lemmas.List.{length-set}
 use Rattle.b3_core.proofs.Lists.{elements}
-use Rattle.b3_core.specs.Compression.{g, half_g, round}
+use Rattle.b3_core.specs.Compression.{g, half_g, permuted, round, rounds}
 
 -- the columns, step by step together, of the state v and the message words x
 abbrev pub columns_together : List ℕ → (ℕ → ℕ) → List ℕ
@@ -81,3 +81,9 @@ round-together v m count =
     let second = ap (λ u. diagonals_together u x) w_is ∙ diagonals-together (λ i. get_or w i 0) x
     ∙ ap (λ u. diagonals u x) (sym w_is) in
     ap (λ u. diagonals_together u x) first ∙ second
+
+-- a round, and after it n rounds with the permuted message
+pub rounds-suc : (n : ℕ) (v m : List ℕ) {u l w : List ℕ} → u ≡ round v m → l ≡ permuted m → w ≡ rounds n u l
+    → w ≡ rounds (suc n) v m
+unfolding rounds
+rounds-suc n v m u_is l_is w_is = w_is ∙ (λ i. rounds n (u_is i) (l_is i))

@@ -17,6 +17,15 @@ escape-itself b plain =
     let front = or_parts (b == 92) (b == 10) parts.0 in
     cond-false (b == 92) _ _ front.0 ∙ cond-false (b == 10) _ _ front.1 ∙ cond-false (b == 13) _ _ parts.1
 
+-- a byte as it is written: one of the three that are escaped, or any other as it is
+pub escape-cases : (b : ℕ) (P : List ℕ → Type 0) → (b ≡ 92 → P (escape 92)) → (b ≡ 10 → P (escape 10))
+    → (b ≡ 13 → P (escape 13)) → (b ≢ 92 → b ≢ 10 → b ≢ 13 → P (b ∷ [])) → P (escape b)
+escape-cases b P at_backslash at_feed at_return other =
+    cond_both (b == 92) _ _ P (λ is. at_backslash (eqb-true b 92 is))
+    (λ not_backslash. cond_both (b == 10) _ _ P (λ is. at_feed (eqb-true b 10 is))
+    (λ not_feed. cond_both (b == 13) _ _ P (λ is. at_return (eqb-true b 13 is))
+    (λ not_return. other (eqb-false b 92 not_backslash) (eqb-false b 10 not_feed) (eqb-false b 13 not_return))))
+
 -- nothing is escaped in no bytes
 pub escaped-nil : escaped [] ≡ []
 unfolding escaped

@@ -4,9 +4,10 @@ pub mod Searches
 pub mod Marks
 pub mod Escapes
 pub mod BadCharacters
--- a line as it is written: part by part, and that it is text
+-- a line as it is written: part by part, that it is text, and which bytes it does not hold
 pub mod Written
 pub mod Texts
+pub mod LineBytes
 -- a line as it is read: its digits and spaces, how its parts lie, the first refusal of it, and what it says where there
 -- is none
 pub mod DigitValues

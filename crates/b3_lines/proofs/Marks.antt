@@ -6,7 +6,7 @@ use Rattle.std.proofs.lemmas.List.Folds.{list_any_at, sum_by-zero}
 use Rattle.memchr.specs.Find.{places}
 use Rattle.memchr.proofs.lemmas.CallerLemmas.{length-places}
 use Rattle.b3_lines.specs.Names.{escaped, is_escaped}
-use Rattle.b3_lines.specs.Writing.{is_marked, shown}
+use Rattle.b3_lines.specs.Writing.{is_marked, mark, shown}
 use Rattle.b3_lines.proofs.Escapes.{escaped-none}
 
 -- one more byte, counted or not
@@ -37,13 +37,22 @@ escaped-unmarked name unmarked =
     escaped-none name
     (λ k low within passes. both_ways (is_marked name) unmarked (list_any_at is_escaped name k 0 within passes))
 
+-- what is made of the mark and the escaped form of a name that is not marked is made of no mark and the name
+pub mark-unmarked : (f : List ℕ → List ℕ → List ℕ) (name : List ℕ) → is_marked name ≡ false
+    → f (mark name) (escaped name) ≡ f [] name
+mark-unmarked f name unmarked =
+    ap (λ m. f m (escaped name)) (cond-false (is_marked name) _ _ unmarked) ∙ ap (f []) (escaped-unmarked name unmarked)
+
+-- a name that is marked has the mark
+pub mark-marked : (name : List ℕ) → is_marked name ≡ true → mark name ≡ 92 ∷ []
+mark-marked name marked = cond-true (is_marked name) _ _ marked
+
 -- the shown form of a name without mark is the name
 pub shown-unmarked : (name : List ℕ) → is_marked name ≡ false → shown name ≡ name
 unfolding shown
-shown-unmarked name unmarked =
-    ap (λ m. m ++ escaped name) (cond-false (is_marked name) _ _ unmarked) ∙ escaped-unmarked name unmarked
+shown-unmarked = mark-unmarked (λ m text. m ++ text)
 
 -- the shown form of a marked name has the mark in front
 pub shown-marked : (name : List ℕ) → is_marked name ≡ true → shown name ≡ 92 ∷ escaped name
 unfolding shown
-shown-marked name marked = ap (λ m. m ++ escaped name) (cond-true (is_marked name) _ _ marked)
+shown-marked name marked = ap (λ m. m ++ escaped name) (mark-marked name marked)

@@ -1,5 +1,5 @@
 -- What is written is text.
-use Rattle.std.proofs.Common.{◌≡◌, ℕ, ◌<◌, ◌≤◌, Bool, true, ◌==◌, List, [], ◌∷◌, ◌++◌, slice_index, refl, sym, ap, subst, ◌∙◌, arith, append-nil, inl, inr}
+use Rattle.std.proofs.Common.{◌≡◌, ℕ, ◌<◌, ◌≤◌, Bool, true, List, [], ◌∷◌, ◌++◌, slice_index, refl, sym, ap, subst, ◌∙◌, arith, append-nil, inl, inr}
 use Rattle.std.specs.Prelude.{IsUtf8, nat_lt}
 use Rattle.std.specs.List.{list_all}
 use Rattle.std.specs.Str.{IsAscii}
@@ -12,7 +12,7 @@ use Rattle.hex.specs.Hex.{encode_lower, lower_digits}
 use Rattle.hex.proofs.HexLemmas.{IsAscii-encode_with}
 use Rattle.b3_lines.specs.Names.{escape, escaped}
 use Rattle.b3_lines.specs.Writing.{is_marked, mark, plain_text, shown, spaces, tag_prefix, tag_separator, tagged_text}
-use Rattle.b3_lines.proofs.Escapes.{escaped-append, escaped-ascii, escaped-cons, escaped-nil, escaped-none}
+use Rattle.b3_lines.proofs.Escapes.{escape-cases, escaped-append, escaped-ascii, escaped-cons, escaped-nil, escaped-none}
 
 -- the bytes of a character that is not ASCII are not escaped
 escaped-wide : (c : ℕ) → 128 ≤ c → escaped (encode c) ≡ encode c
@@ -30,10 +30,8 @@ IsUtf8-pair b ascii =
 -- an ASCII byte is written as text
 IsUtf8-escape : (c : ℕ) → c < 128 → IsUtf8 (escape c)
 IsUtf8-escape c ascii =
-    cond_both (c == 92) _ _ IsUtf8 (λ _. IsUtf8-pair 92 (omega arith))
-    (λ _. cond_both (c == 10) _ _ IsUtf8 (λ _. IsUtf8-pair 110 (omega arith))
-    (λ _. cond_both (c == 13) _ _ IsUtf8 (λ _. IsUtf8-pair 114 (omega arith))
-    (λ _. IsUtf8-from_ascii (c ∷ []) (IsAscii-cons c [] ascii IsAscii-nil))))
+    escape-cases c IsUtf8 (λ _. IsUtf8-pair 92 (omega arith)) (λ _. IsUtf8-pair 110 (omega arith))
+    (λ _. IsUtf8-pair 114 (omega arith)) (λ _ _ _. IsUtf8-from_ascii (c ∷ []) (IsAscii-cons c [] ascii IsAscii-nil))
 
 -- so is a character
 IsUtf8-escaped_character : (c : ℕ) → scalar c ≡ true → IsUtf8 (escaped (encode c))

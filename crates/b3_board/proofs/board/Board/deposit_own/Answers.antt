@@ -5,12 +5,12 @@ use Rattle.std.specs.List.{Contains}
 use Rattle.std.specs.Vec.{with_items}
 use Rattle.b3_core.specs.declared.spans.Span.{Span}
 use Rattle.b3_board.specs.Entries.{KeepsBoard, at, kept_chunk, kept_count, open_span}
-use Rattle.b3_board.specs.BoardStates.{IsDeposit, IsLawful, BoardState, Piece}
+use Rattle.b3_board.specs.BoardStates.{IsDeposit, BoardState, Piece}
 use Rattle.b3_board.specs.declared.entries.Entry.{Entry}
 use Rattle.b3_board.specs.Spans.{IsNodeOf, chunk_in}
 use Rattle.b3_board.specs.declared.entries.State.TheVariants.{Open}
 use Rattle.b3_board.proofs.Deposits.{Contains-open, deposited, not_open}
-use Rattle.b3_board.proofs.LawfulStates.{lawful_state, state_of}
+use Rattle.b3_board.proofs.LawfulStates.{IsLawful-seen, state_of}
 use Rattle.b3_board.proofs.OpenSpans.{open_count-closed, same_length}
 use Rattle.b3_board.proofs.board.Board.deposit_own.Goals as goal
 
@@ -26,13 +26,7 @@ returns-in_default-clause-ok g c =
     (λ h. absurd (false≢true h), λ own. absurd (absent own))
 
 pub returns-in_default-clause-lawful : goal.returns-in_default-clause-lawful
-returns-in_default-clause-lawful g c =
-    let board = c.self.inside in
-    let l = g.L.InputLedger in
-    let kept = c.self.invariant in
-    subst IsLawful c.self.view_is
-    (lawful_state l.input l.mode l.first board.entries.items kept.lawful
-    board.account.chunks kept.booked)
+returns-in_default-clause-lawful g c = IsLawful-seen c.self.invariant c.self.view_is
 
 pub returns-clause-ok : goal.returns-clause-ok
 returns-clause-ok g c =
@@ -69,27 +63,6 @@ returns-clause-step g c =
     λ es. IsDeposit c.args.self.now c.args.own.span (of es c.credit.new.self.chunks) in
     subst P (sym items) moved
 
-pub returns-clause-lawful : goal.returns-clause-lawful
-returns-clause-lawful g c =
-    let board = c.self.inside in
-    let l = g.L.InputLedger in
-    let found = rw c.as_slice.ensures.value at c.in-Some.ensures.found in
-    let count : sum_by kept_count c.close_span.new.entries
-    ≡ sum_by kept_count board.entries.items + (at board.entries.items c.in-Some.place).span.count =
-    search (rules, c.close_span.ensures.count, c.as_mut_slice.ensures.value) in
-    let booked : sum_by kept_count c.close_span.new.entries ≡ c.credit.new.self.chunks =
-    omega (arith, count, c.self.invariant.booked, c.credit.ensures.chunks, ap (λ (s : Span). s.count) found.2) in
-    let opens : map open_span c.close_span.new.entries ≡ set (map open_span board.entries.items) c.in-Some.place None =
-    search (rules, c.close_span.ensures.opens, c.as_mut_slice.ensures.value) in
-    let items : (with_items board.entries c.close_span.new.entries).items ≡ c.close_span.new.entries =
-    with_items_is board.entries c.close_span.new.entries
-    (same_length board.entries.items c.close_span.new.entries c.in-Some.place opens ∙ sym board.entries.ok.0) in
-    let P : List Entry → Type 0 =
-    λ es. IsLawful (state_of l.input l.mode l.first es c.credit.new.self.chunks) in
-    subst P (sym items)
-    (lawful_state l.input l.mode l.first c.close_span.new.entries c.close_span.ensures.lawful
-    c.credit.new.self.chunks booked)
-
 pub invariant_of-self : goal.invariant_of-self
 invariant_of-self g c =
     let board = c.self.inside in
@@ -121,6 +94,9 @@ invariant_of-self g c =
       );
       not_sure = c.self.invariant.not_sure;
     })
+
+pub returns-clause-lawful : goal.returns-clause-lawful
+returns-clause-lawful g c = IsLawful-seen (invariant_of-self g c) refl
 
 pub close_span-requires-clause-top : goal.close_span-requires-clause-top
 close_span-requires-clause-top g c =

@@ -4,11 +4,11 @@ use Rattle.std.specs.List.{Contains}
 use Rattle.b3_core.specs.Tree.{chunks}
 use Rattle.b3_core.specs.declared.spans.Span.{Span}
 use Rattle.b3_board.specs.Entries.{at}
-use Rattle.b3_board.specs.BoardStates.{IsLawful, BoardState}
+use Rattle.b3_board.specs.BoardStates.{BoardState}
 use Rattle.b3_board.specs.declared.entries.State.TheVariants.{Open}
 use Rattle.b3_board.proofs.Deposits.{Contains-open, not_open}
 use Rattle.b3_board.proofs.OpenSpans.{open_inside}
-use Rattle.b3_board.proofs.LawfulStates.{lawful_state}
+use Rattle.b3_board.proofs.LawfulStates.{IsLawful-seen}
 use Rattle.b3_board.proofs.board.Board.is_open.Goals as goal
 
 pub returns-in_default-clause-open : goal.returns-in_default-clause-open
@@ -21,12 +21,7 @@ returns-in_default-clause-open g c =
     (λ h. absurd (false≢true h), λ there. absurd (absent there))
 
 pub returns-in_default-clause-lawful : goal.returns-in_default-clause-lawful
-returns-in_default-clause-lawful g c =
-    let l = g.L.InputLedger in
-    let board = c.self.inside in
-    subst IsLawful c.self.view_is
-    (lawful_state l.input l.mode l.first board.entries.items c.self.invariant.lawful board.account.chunks
-    c.self.invariant.booked)
+returns-in_default-clause-lawful g c = IsLawful-seen c.self.invariant c.self.view_is
 
 pub returns-clause-open : goal.returns-clause-open
 returns-clause-open g c =
@@ -51,9 +46,4 @@ returns-clause-some g c = λ h.
     (open_inside l.input l.mode l.first es c.self.invariant.lawful c.in-Some._place found.1).1
 
 pub returns-clause-lawful : goal.returns-clause-lawful
-returns-clause-lawful g c =
-    let l = g.L.InputLedger in
-    let board = c.self.inside in
-    subst IsLawful c.self.view_is
-    (lawful_state l.input l.mode l.first board.entries.items c.self.invariant.lawful board.account.chunks
-    c.self.invariant.booked)
+returns-clause-lawful g c = IsLawful-seen c.self.invariant c.self.view_is

@@ -1,10 +1,10 @@
-use Rattle.std.proofs.Common.{◌≡◌, ◌≤◌, List, [], map, sum_by, sym, subst, ap, ◌∙◌}
+use Rattle.std.proofs.Common.{◌≡◌, ◌≤◌, List, [], map, sum_by, sym, refl, subst, ap, ◌∙◌}
 use Rattle.std.proofs.lemmas.Bool.{false≢true}
 use Rattle.b3_core.specs.Tree.{chunks}
 use Rattle.b3_board.specs.declared.entries.Entry.{Entry}
 use Rattle.b3_board.specs.Entries.{Lawful, at, fresh, kept_count, open_count, open_spans, pieces}
 use Rattle.b3_board.proofs.Cuttings.{kept_none, lawful_new, open_count-fresh, open_spans-fresh, pieces-fresh}
-use Rattle.b3_board.proofs.LawfulStates.{lawful_state}
+use Rattle.b3_board.proofs.LawfulStates.{IsLawful-seen}
 use Rattle.b3_board.proofs.board.Board.open.Goals as goal
 
 pub invariant_of-board : goal.invariant_of-board
@@ -38,8 +38,4 @@ returns-clause-board g c =
     })
 
 pub returns-clause-lawful : goal.returns-clause-lawful
-returns-clause-lawful g c =
-    let l = g.L.InputLedger in
-    let kept = invariant_of-board g c in
-    lawful_state l.input l.mode l.first c.in_ok-entries.entries.items kept.lawful
-    c.open-account.result.0.chunks kept.booked
+returns-clause-lawful g c = IsLawful-seen (invariant_of-board g c) refl

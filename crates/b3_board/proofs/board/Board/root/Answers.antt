@@ -3,12 +3,12 @@ use Rattle.std.proofs.lemmas.Bool.{false≢true}
 use Rattle.b3_core.specs.Tree.{top}
 use Rattle.b3_core.specs.declared.nodes.Node.{Node}
 use Rattle.b3_board.specs.Entries.{NoneOpen}
-use Rattle.b3_board.specs.BoardStates.{IsLawful, BoardState}
+use Rattle.b3_board.specs.BoardStates.{BoardState}
 use Rattle.b3_board.specs.RootNodes.{RootNode}
 use Rattle.b3_board.specs.Spans.{IsRootOf}
 use Rattle.b3_board.proofs.Deposits.{nil-from_none_open, none_open-from_nil}
 use Rattle.b3_board.proofs.KnownNodes.{IsRootOf-told}
-use Rattle.b3_board.proofs.LawfulStates.{lawful_state}
+use Rattle.b3_board.proofs.LawfulStates.{IsLawful-seen}
 use Rattle.b3_board.proofs.board.Board.root.Goals as goal
 
 pub returns-in_default-clause-there : goal.returns-in_default-clause-there
@@ -45,17 +45,7 @@ returns-clause-told g c = λ all told.
     c.of_board.ensures ∙ ap (λ (x : Node). record { node = x; kept = true }) node
 
 pub returns-in_default-clause-lawful : goal.returns-in_default-clause-lawful
-returns-in_default-clause-lawful g c =
-    let l = g.L.InputLedger in
-    let board = c.self.inside in
-    subst IsLawful c.self.view_is
-    (lawful_state l.input l.mode l.first board.entries.items c.self.invariant.lawful board.account.chunks
-    c.self.invariant.booked)
+returns-in_default-clause-lawful g c = IsLawful-seen c.self.invariant c.self.view_is
 
 pub returns-clause-lawful : goal.returns-clause-lawful
-returns-clause-lawful g c =
-    let l = g.L.InputLedger in
-    let board = c.self.inside in
-    subst IsLawful c.self.view_is
-    (lawful_state l.input l.mode l.first board.entries.items c.self.invariant.lawful board.account.chunks
-    c.self.invariant.booked)
+returns-clause-lawful g c = IsLawful-seen c.self.invariant c.self.view_is
