@@ -116,11 +116,12 @@ impl Digester {
         ensures range { self.new.range ≡ self.old.range }
     {
         let mode = self.range.mode;
-        if let Some(output) = hash_at_offsets(pool, &*shelf, &mode, limits, &mut self.buffer) {
+        let len = shelf.len_hint();
+        if let Some(output) = hash_at_offsets(pool, &*shelf, len, &mode, limits, &mut self.buffer) {
             return Ok(Some(output));
         }
         let buffer = self.buffer.front(READ_LEN)?;
-        if shelf.len_hint() >= THREAD_LEN {
+        if len >= THREAD_LEN {
             return hash_in_thread(pool.rt, shelf, &mode, limits.turns, buffer);
         }
         hash_in_order(shelf, &mode, limits.turns, buffer)
