@@ -49,13 +49,12 @@ impl<S: Shelf> Source for Rest<'_, S> {
     }
 }
 
-/// The output of what is left of the file that is begun, which tells so many bytes. Nothing where it is to be read in
-/// order: one worker hashes, the file has no more than one span, it may take more reads than `limits` allow, it has not the
-/// length that it tells, or some of it could not be read.
+/// The output of what is left of the file that is begun. Nothing where it is to be read in order: one worker hashes,
+/// the file has no more than one span, it may take more reads than `limits` allow, it has not the length that it tells,
+/// or some of it could not be read.
 pub fn hash_at_offsets<R: Threads + Wait + Sync, G: Gate + Sync, S: Shelf + Send + Sync>(
     pool: &Pool<'_, R, G>,
     shelf: &S,
-    len: u64,
     mode: &Mode,
     limits: Limits,
     buffer: &mut Buffer,
@@ -63,6 +62,7 @@ pub fn hash_at_offsets<R: Threads + Wait + Sync, G: Gate + Sync, S: Shelf + Send
     ensures { IfSome result (λ output. IsOutputOf (S.told shelf.now) (S.left shelf.now) mode.now output) }
 {
     let workers = pool.workers as usize;
+    let len = shelf.len_hint();
     if workers < 2 || len >= LEN_LIMIT || !limits.allow(len) {
         return None;
     }

@@ -9,7 +9,7 @@ ghost use Rattle.b3_check.specs.Scripts.Kind.{Hashed};
 use crate::at_offsets::hash_at_offsets;
 use crate::buffer::{Buffer, READ_LEN};
 use crate::fault::RunFault;
-use crate::in_order::{hash_in_order, hash_in_thread};
+use crate::in_order::hash_in_order;
 use crate::options::Limits;
 use crate::output_range::OutputRange;
 use crate::pool::Pool;
@@ -20,9 +20,6 @@ use b3_hash::Xof;
 use std::alloc::{AllocError, Global};
 use std::sync::Wait;
 use std::thread::Threads;
-
-/// A file that tells so many bytes is worth a thread, also where it is read in order.
-const THREAD_LEN: u64 = 1 << 24;
 
 /// Hashes names, one after the other. A file is read at offsets by all workers, or in order: no content is kept.
 #[derive(Drop)]
@@ -116,14 +113,10 @@ impl Digester {
         ensures range { self.new.range ≡ self.old.range }
     {
         let mode = self.range.mode;
-        let len = shelf.len_hint();
-        if let Some(output) = hash_at_offsets(pool, &*shelf, len, &mode, limits, &mut self.buffer) {
+        if let Some(output) = hash_at_offsets(pool, &*shelf, &mode, limits, &mut self.buffer) {
             return Ok(Some(output));
         }
         let buffer = self.buffer.front(READ_LEN)?;
-        if len >= THREAD_LEN {
-            return hash_in_thread(pool.rt, shelf, &mode, limits.turns, buffer);
-        }
         hash_in_order(shelf, &mode, limits.turns, buffer)
     }
 

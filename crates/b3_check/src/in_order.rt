@@ -1,19 +1,17 @@
 //! A file that is read from where it is begun to its end.
 
-ghost use Rattle.std.specs.Prelude.{◌≡◌, ◌≢◌, ℕ, List, ◌+◌, ◌-◌, ◌^◌, ◌<◌, ◌≤◌, ◌++◌, [], Ok, None, false, IsTrue, IsSome, IsOk, IfOk, IfErr, IfSome, MatchOption, OnErr, length, take, is_err, if◌then◌else◌};
+ghost use Rattle.std.specs.Prelude.{◌≡◌, ◌≢◌, ◌+◌, ◌-◌, ◌^◌, ◌<◌, ◌≤◌, ◌++◌, [], Ok, None, false, IsTrue, IsSome, IsOk, IfOk, IfErr, IfSome, MatchOption, OnErr, length, take, is_err, if◌then◌else◌};
 ghost use Rattle.b3_check.specs.Faults.{is_write_fault};
 ghost use Rattle.b3_check.specs.Reading.{IsFaultOfRest, IsFilled, IsOutputOf, is_unread};
 ghost use Rattle.b3_check.specs.Scripts.Kind.{Hashed};
 ghost use Rattle.b3_check.specs.declared.buffer.TheConstants.{READ_LEN};
 ghost use Rattle.b3_check.specs.declared.fault.RunFault.TheVariants.{EndlessInput};
-ghost use Rattle.b3_hash.specs.Hashers.{StandsFor, length_of, mode_of};
 
 use crate::buffer::READ_LEN;
 use crate::fault::RunFault;
 use crate::shelf::{CannotRead, Shelf};
 use b3_core::Mode;
 use b3_hash::{Hasher, Xof};
-use std::thread::{Threads, join_mut};
 
 /// Reads the next bytes of the file, until the buffer is full or the file ends, and answers how many they are: only
 /// where it ends they are fewer than the buffer takes. Nothing where a read fails. Takes each read from `turns`; a run
@@ -74,18 +72,6 @@ fn read_after<S: Shelf>(
     Ok(count)
 }
 
-// Hashes what was read. It is not inlined: by its frame the thread of `hash_in_thread` has the vectors of the code on lanes
-// at multiples of 32 bytes.
-#[inline(never)]
-fn take_in(hasher: &mut Hasher, bytes: &[u8])
-    requires few { length_of hasher.old + length bytes.now < 2 ^ 64 }
-    ensures stands { (before : List ℕ) → StandsFor hasher.old before → StandsFor hasher.new (before ++ bytes.now) }
-    ensures len { length_of hasher.new ≡ length_of hasher.old + length bytes.now }
-    ensures mode { mode_of hasher.new ≡ mode_of hasher.old }
-{
-    hasher.update(bytes).unwrap();
-}
-
 /// The output of what is left of the file, which goes through a buffer of one read. Nothing where it cannot be read. A
 /// run fault comes where the file has not ended after so many reads.
 pub fn hash_in_order<S: Shelf>(
@@ -112,47 +98,9 @@ pub fn hash_in_order<S: Shelf>(
         let Some(count) = fill(shelf, buffer, &mut left)? else {
             return Ok(None);
         };
-        take_in(&mut hasher, &buffer[..count]);
+        hasher.update(&buffer[..count]).unwrap();
         if count < READ_LEN {
             return Ok(Some(hasher.finish()));
         }
     }
-}
-
-/// The same in a thread of its own, if one can be made, while this one waits. The system moves the stack of the main thread
-/// at each start by multiples of 16, but the code on lanes is faster where its vectors lie at multiples of 32.
-pub fn hash_in_thread<R: Threads, S: Shelf + Send>(
-    rt: &R,
-    shelf: &mut S,
-    mode: &Mode,
-    turns: u64,
-    buffer: &mut [u8],
-) -> Result<Option<Xof>, RunFault>
-    requires buffer { length buffer.old ≡ READ_LEN }
-    requires some_turns { 0 < turns }
-    requires turns { turns ≤ 2 ^ 40 }
-    requires count { S.failures shelf.old < 2 ^ 64 - 1 }
-    ensures whole { IfOk result (λ read. MatchOption read (S.is_sure shelf.old ≡ false)
-        (λ output. IsOutputOf (S.told shelf.old) (S.left shelf.old) mode.now output)) }
-    ensures fault { IfErr result (λ fault. fault ≡ EndlessInput) }
-    ensures endless { OnErr result (IsSome (S.told shelf.old) → turns ≤ length (S.left shelf.old)) }
-    ensures count { S.failures shelf.new ≡ S.failures shelf.old + is_unread result }
-    ensures told { S.told shelf.new ≡ S.told shelf.old }
-    ensures still_sure { S.is_sure shelf.new ≡ S.is_sure shelf.old }
-{
-    let mut hash = || -> Result<Option<Xof>, RunFault>
-        requires buffer { length buffer.now ≡ READ_LEN }
-        requires some_turns { 0 < turns }
-        requires turns { turns ≤ 2 ^ 40 }
-        requires count { S.failures shelf.now < 2 ^ 64 - 1 }
-        ensures whole { IfOk result (λ read. MatchOption read (S.is_sure shelf.entry.now ≡ false)
-            (λ output. IsOutputOf (S.told shelf.entry.now) (S.left shelf.entry.now) mode.entry.now output)) }
-        ensures fault { IfErr result (λ fault. fault ≡ EndlessInput) }
-        ensures endless { OnErr result (IsSome (S.told shelf.entry.now) → turns ≤ length (S.left shelf.entry.now)) }
-        ensures count { S.failures shelf.exit.now ≡ S.failures shelf.entry.now + is_unread result }
-        ensures told { S.told shelf.exit.now ≡ S.told shelf.entry.now }
-        ensures still_sure { S.is_sure shelf.exit.now ≡ S.is_sure shelf.entry.now }
-    { hash_in_order(shelf, mode, turns, buffer) };
-    let (found, _) = join_mut(rt, &mut hash, &mut || {});
-    found
 }
