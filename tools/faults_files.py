@@ -134,16 +134,17 @@ def long_files(faults):
 
 
 def number_of_threads(faults):
-    """A run over a long file has as many threads as requested, and never more."""
-    for told in (1, 2, 4):
-        run = subprocess.Popen([faults.program, "--num-threads", str(told), "large"], stdout=subprocess.PIPE)
+    """A run over a long file, or over many names, has as many threads as requested, and never more."""
+    Path("64 KiB").write_bytes(bytes(1 << 16))
+    for names, told in product((["large"], ["64 KiB"] * 2_000), (1, 2, 4)):
+        run = subprocess.Popen([faults.program, "--num-threads", str(told), *names], stdout=subprocess.DEVNULL)
         most = 0
         while run.poll() is None:
             with suppress(OSError):
                 found = re.search(r"^Threads:\s+(\d+)", Path(f"/proc/{run.pid}/status").read_text(), re.MULTILINE)
                 most = max(most, int(found[1]) if found else 0)
-        run.stdout.close()
-        faults.compare(f"{told} threads, of which {most} were seen", (None, None, most), ("", "", told))
+        name = f"{told} threads, names: {len(names)}, threads seen: {most}"
+        faults.compare(name, (None, None, most), ("", "", told))
 
 
 def lines_of_one(digests, name, times):

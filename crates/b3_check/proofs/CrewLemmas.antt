@@ -1,6 +1,6 @@
 -- Items that are taken one by one, done one by one, and found by whom it may be.
-use Rattle.std.proofs.Common.{◌≡◌, ◌⊎◌, ℕ, ◌+◌, ◌*◌, ◌^◌, ◌<◌, ◌≤◌, Bool, true, List, [], ◌∷◌, ◌++◌, length, map, Option, None, Some, Result, Ok, Err, IfNone, IfSome, slice_get, refl, sym, ◌∙◌, ap, subst, append_assoc, length-append, arith}
-use Rattle.std.proofs.lemmas.List.{append-nil, length-map, map-append}
+use Rattle.std.proofs.Common.{◌≡◌, ◌⊎◌, ℕ, ◌+◌, ◌^◌, ◌<◌, ◌≤◌, Bool, true, List, [], ◌∷◌, ◌++◌, length, map, Option, None, Some, Result, Ok, Err, IfNone, IfSome, slice_get, refl, sym, ◌∙◌, ap, subst, append_assoc, length-append, arith}
+use Rattle.std.proofs.lemmas.List.{length-map, map-append}
 use Rattle.b3_check.specs.declared.fault.RunFault.{RunFault}
 use Rattle.b3_check.specs.declared.fault.RunFault.TheVariants.{WriteFault, Memory}
 use Rattle.b3_check.specs.declared.items.Item.{Item}
@@ -12,7 +12,7 @@ use Rattle.b3_check.specs.declared.saying.Saying.{Saying}
 use Rattle.b3_check.specs.declared.shelf.NoContent.{NoContent}
 use Rattle.b3_check.specs.declared.tally.Tally.{Tally}
 use Rattle.b3_check.specs.Contents.{Contents, LacksContent}
-use Rattle.b3_check.specs.Crews.{AheadState, HasCome, HasStopped, IsAt, IsFoundAt, IsLed, IsMessageFor, IsUnderWay, SaysAnswer, SaysContent, SaysTask, SoFar, also_failed, tasks_ahead}
+use Rattle.b3_check.specs.Crews.{AheadState, HasCome, HasStopped, IsAt, IsLed, IsMessageFor, IsUnderWay, SaysAnswer, SaysContent, SoFar, also_failed, tasks_ahead}
 use Rattle.b3_check.specs.Devices.{CanCount}
 use Rattle.b3_check.specs.Owing.{WentOwing, on_out}
 use Rattle.b3_check.specs.Runs.{Broke, IoState, Stopped}

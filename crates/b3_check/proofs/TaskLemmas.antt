@@ -27,7 +27,7 @@ use Rattle.b3_check.specs.Scripts.Kind.{Hashed}
 use Rattle.b3_check.specs.Scripts.Script.{Done, Say}
 use Rattle.b3_check.specs.Sums.{failed_report, is_bad_name, name_report, name_script, names_script, operand_script, shows_name}
 use Rattle.b3_check.specs.Tallies.{no_tally, one_failed, one_missing, tally_sum}
-use Rattle.b3_check.specs.Tasks.{counted, Found, Task, name_asked, name_task, operand_task, report_of, request_report, task_script, tasks_script}
+use Rattle.b3_check.specs.Tasks.{counted, Found, Task, name_task, operand_task, report_of, request_report, task_script, tasks_script}
 use Rattle.b3_check.specs.Crews.{SoFar}
 use Rattle.b3_check.specs.Tasks.Task.{Tell, Find}
 use Rattle.b3_check.proofs.OwingLemmas.{owing_done, owing_stopped, owing_then, owing_written}

@@ -19,7 +19,7 @@ use Rattle.b3_check.specs.Owing.{RanOwing}
 use Rattle.b3_check.specs.Runs.{IoState, Stopped}
 use Rattle.b3_check.specs.Scripts.{AgreesWith, Answer, Given, Report, unread}
 use Rattle.b3_check.specs.Scripts.Kind.{Hashed}
-use Rattle.b3_check.specs.Tasks.{Task, IsFitItem, counted, name_asked, report_of, request_report, task_of, tasks_script}
+use Rattle.b3_check.specs.Tasks.{Task, counted, name_asked, report_of, request_report, task_of, tasks_script}
 use Rattle.b3_check.specs.Tasks.Task.{Tell, Find}
 
 -- what is to be said is what the digest of an answer to the name gives, and so many names were not read for it

@@ -145,7 +145,7 @@ fn refill<R: Wait, S: Shelf, P: WorkItems<I>, I: AnyItem, L: RunInput, A: Front<
     ahead.show(site.rt, site.crew)
 }
 
-// It takes further items, and finds what is to be said of them too before it leaves the crew: so a start of threads serves
+// It takes further items, and finds what is to be said of them too before it leaves its helpers: so a start of threads serves
 // for many.
 fn look_further<R: Wait, S: Shelf, P: WorkItems<I>, I: AnyItem, L: RunInput, A: Front<I, L>>(
     site: &Site<'_, R, S, I, L>,
@@ -160,6 +160,9 @@ fn look_further<R: Wait, S: Shelf, P: WorkItems<I>, I: AnyItem, L: RunInput, A: 
     ensures next { OnOk result ((A.state ahead.new).next ≡ (A.state ahead.old).next) }
     ensures fits { OnOk result (P.fits work.new L.range.length ≡ true) }
 {
+    if !site.crew.is_open() {
+        return Ok(());
+    }
     ahead.take_items(work, site.last_window)?;
     ahead.show(site.rt, site.crew)?;
     look_at_some(site, name_hasher, LOOKS_BEFORE_TURN, LOOKS_LEN_BEFORE_TURN);
@@ -287,8 +290,8 @@ fn lead_and_close<
     led
 }
 
-/// Says what is known; then starts helpers, and says what they and the main thread find, item after item, until one needs
-/// its turn, which it answers, or none is left.
+/// Says what is known; then starts helpers, if there are any, and says what they and the main thread find, item after item,
+/// until one needs its turn, which it answers, or none is left.
 pub fn run_crew<
     R: Threads + Wait + Sync,
     S: Shelf + Sync,
@@ -300,14 +303,14 @@ pub fn run_crew<
     A: Front<I, L>,
 >(
     site: &Site<'_, R, S, I, L>,
-    name_hashers: &mut [NameHasher],
+    name_hasher: &mut NameHasher,
+    helpers: &mut [NameHasher],
     ahead: &mut A,
     work: &mut P,
     out: &mut O,
     err: &mut E,
     saying: &mut Saying,
 ) -> Result<Option<Shown<I, L>>, RunFault>
-    requires some { 1 < length name_hashers.old }
     requires before { IsUnderWay L.range L.tasks L.start (P.left work.old) (P.fits work.old L.range.length) (A.state ahead.old)
         (io_state S.Shelf O.Sink E.Sink site.now.shelf.now out.old err.old) saying.old }
     ensures led { IsLed L.range L.tasks L.start (P.left work.new) (P.fits work.new L.range.length) (A.state ahead.new)
@@ -318,8 +321,9 @@ pub fn run_crew<
         return Ok(Some(entry));
     }
     ahead.show(site.rt, site.crew)?;
-    let (first, helpers) = name_hashers.split_at_mut(1);
-    let name_hasher = &mut first[0];
+    if helpers.is_empty() {
+        return lead(site, name_hasher, ahead, work, out, err, saying);
+    }
     site.crew.open();
     lead_helpers(site, name_hasher, helpers, ahead, work, out, err, saying)
 }

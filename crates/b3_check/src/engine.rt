@@ -56,7 +56,9 @@ const MAX_CONCURRENT_LEN_OF_FEW: u64 = 1 << 21;
 pub struct Engine<'c, R, G> {
     alloc: Global,
     pool: Pool<'c, R, G>,
-    name_hashers: Vec<NameHasher>,
+    // the main thread's own, and one for each helper
+    name_hasher: NameHasher,
+    helpers: Vec<NameHasher>,
     digester: Digester,
     limits: Limits,
     ghost some_turns: { 0 < limits.turns },
@@ -77,11 +79,12 @@ impl<'c, R: Threads + Wait + Sync, G: Gate + Sync> Engine<'c, R, G> {
         ensures range { IfOk result (λ engine. engine.digester.range ≡ range) }
         ensures limits { IfOk result (λ engine. engine.limits ≡ limits) }
     {
-        let name_hashers = name_hashers(alloc, pool.workers as usize)?;
+        let helpers = name_hashers(alloc, pool.workers as usize - 1)?;
         Ok(Engine {
             alloc,
             pool,
-            name_hashers,
+            name_hasher: NameHasher::new(alloc),
+            helpers,
             digester: Digester::new(alloc, range)?,
             limits,
         })
@@ -210,14 +213,10 @@ impl<'c, R: Threads + Wait + Sync, G: Gate + Sync> Engine<'c, R, G> {
         ensures limits { self.new.limits ≡ self.old.limits }
         ensures same_range { self.new.digester.range ≡ self.old.digester.range }
     {
-        let workers = self.name_hashers.len();
-        let count = if workers > 1 {
-            FIRST_ITEMS.min(window_of(self.digester.range().length, workers, MAX_ITEMS))
-        } else {
-            1
-        };
-        ahead.take_items(work, count)?;
-        if workers < 2 || ahead.len() < 2 && !ahead.is_settled() {
+        let workers = self.pool.workers as usize;
+        let window = window_of(self.digester.range().length, workers, MAX_ITEMS);
+        ahead.take_items(work, FIRST_ITEMS.min(window))?;
+        if ahead.len() < 2 && !ahead.is_settled() {
             return Ok(ahead.pop());
         }
         let led = self.lead_crew(crew, devices, ahead, work, saying);
@@ -226,7 +225,8 @@ impl<'c, R: Threads + Wait + Sync, G: Gate + Sync> Engine<'c, R, G> {
         led
     }
 
-    // The same beside helpers, where there is more than one item, or it is known what is to be said of one.
+    // The same beside helpers, if there is more than one worker, where there is more than one item, or it is known what is to
+    // be said of one.
     fn lead_crew<
         L: RunInput + Send + Sync,
         I: AnyItem + Send + Sync,
@@ -242,7 +242,6 @@ impl<'c, R: Threads + Wait + Sync, G: Gate + Sync> Engine<'c, R, G> {
         work: &mut P,
         saying: &mut Saying,
     ) -> Result<Option<Shown<I, L>>, RunFault>
-        requires some { 1 < vec_len self.old.name_hashers }
         requires told { S.told devices.old.shelf.now ≡ L.start.told }
         requires sure { S.is_sure devices.old.shelf.now ≡ L.start.sure }
         requires range { L.range ≡ self.old.digester.range }
@@ -257,7 +256,8 @@ impl<'c, R: Threads + Wait + Sync, G: Gate + Sync> Engine<'c, R, G> {
         ensures same_range { self.new.digester.range ≡ self.old.digester.range }
     {
         let range = self.digester.range();
-        let workers = self.name_hashers.len().min(ahead.len().max(2));
+        let helpers = self.helpers.len().min(ahead.len().saturating_sub(1).max(1));
+        let workers = helpers + 1;
         let site = Site {
             rt: self.pool.rt,
             crew,
@@ -269,7 +269,8 @@ impl<'c, R: Threads + Wait + Sync, G: Gate + Sync> Engine<'c, R, G> {
         };
         run_crew(
             &site,
-            &mut self.name_hashers.as_mut_slice()[..workers],
+            &mut self.name_hasher,
+            &mut self.helpers.as_mut_slice()[..helpers],
             ahead,
             work,
             devices.out,

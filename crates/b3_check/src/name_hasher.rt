@@ -143,10 +143,10 @@ impl NameHasher {
     }
 }
 
-/// So many of them, one for each worker.
-pub fn name_hashers(alloc: Global, workers: usize) -> Result<Vec<NameHasher>, AllocError> {
-    let mut name_hashers = Vec::with_capacity(alloc, workers)?;
-    for _ in 0..workers {
+/// So many of them.
+pub fn name_hashers(alloc: Global, count: usize) -> Result<Vec<NameHasher>, AllocError> {
+    let mut name_hashers = Vec::with_capacity(alloc, count)?;
+    for _ in 0..count {
         name_hashers.push(NameHasher::new(alloc))?;
     }
     Ok(name_hashers)

@@ -219,10 +219,7 @@ impl<'a> CrewFiles<'a> {
                 b'q' | b's' | b'm' | b'd' => looks.saturating_add(begins) == 1,
                 _ => looks <= 1 && begins == 1,
             };
-            assert!(rt;
-                is_right && !(workers == 1 && looks > 0),
-                "{row}, {workers} workers: {name}"
-            );
+            assert!(rt; is_right, "{row}, {workers} workers: {name}");
         }
     }
 }

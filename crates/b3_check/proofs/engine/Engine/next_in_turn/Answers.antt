@@ -11,8 +11,8 @@ returns-in_err-take_items-clause-led g c =
     let p = err_from_is_err_and c.from_residual.result c.from_residual.ensures.1 in
     rw p.1 (has_refused c.requires.before p.2)
 
-pub returns-then-workers-lt2-clause-led : goal.returns-then-workers-lt2-clause-led
-returns-then-workers-lt2-clause-led g c =
+pub returns-then-not-is_settled-clause-led : goal.returns-then-not-is_settled-clause-led
+returns-then-not-is_settled-clause-led g c =
     let taken = c.in_ok-take_items.ensures in
     led_popped c.pop.new.self (λ entry. (arc_value {X = ℕ × Item} entry).1) c.pop.result
     (under_way_taken c.requires.before taken.left taken.next taken.fits) taken.all c.pop.ensures.none c.pop.ensures.some

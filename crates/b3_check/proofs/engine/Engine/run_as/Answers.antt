@@ -2,7 +2,6 @@ use Rattle.std.proofs.Common.{◌≡◌, [], refl, rules, sym, ◌∙◌}
 use Rattle.std.proofs.lemmas.Result.{err_from_is_err_and}
 use Rattle.std.specs.Arc.{arc_value}
 use Rattle.b3_check.specs.Crews.{tasks_ahead}
-use Rattle.b3_check.specs.Devices.{io_state_of}
 use Rattle.b3_check.proofs.CrewLemmas.{so_far_counted, so_far_uncounted, stopped_counted}
 use Rattle.b3_check.proofs.TaskLemmas.{so_far_all, so_far_none, so_far_unwritten}
 use Rattle.b3_check.proofs.engine.Engine.run_as.Goals as goal
