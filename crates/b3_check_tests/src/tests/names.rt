@@ -184,7 +184,7 @@ fn assert_check<R: Abort + Threads + Wait + Sync>(
     Ok(())
 }
 
-// Sums the names and checks their lines. One worker hashes nothing beside others.
+// Sums the names and checks their lines.
 fn assert_names<R: Abort + Threads + Wait + Sync>(
     rt: &R,
     alloc: Global,
@@ -195,8 +195,11 @@ fn assert_names<R: Abort + Threads + Wait + Sync>(
     let kept = pattern(alloc, KEPT)?;
     let texts = texts_of(alloc, &kept, names)?;
     let all = with_feeds(alloc, names)?;
-    let is_beside = workers > 1 && access == Access::Beside;
-    let begun = if is_beside { &texts.begun } else { &all };
+    let begun = if access == Access::Beside {
+        &texts.begun
+    } else {
+        &all
+    };
     assert_sum(
         rt,
         alloc,
