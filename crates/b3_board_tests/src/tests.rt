@@ -115,6 +115,20 @@ fn assert_pieces<'a, L: InputLedger>(
 // chunks.
 type Step<'s> = (usize, &'s [(u64, u64)], u64, u64);
 
+fn assert_step<'a, L: InputLedger>(
+    rt: &impl Abort,
+    board: &mut MemoryBoard<'a, L>,
+    share: &mut Share<L>,
+    plan: &Plan<'a>,
+    step: &Step,
+) {
+    let (span, pieces, deposited, waiting) = *step;
+    assert!(rt; board.root().is_none());
+    assert!(rt; deposit(rt, board, share, plan, span).is_ok());
+    assert_pieces(rt, board, pieces);
+    assert_eq!(rt; counts(board, share), (deposited, waiting, deposited));
+}
+
 fn steps_on<'a, L: InputLedger>(
     rt: &impl Abort,
     alloc: Global,
@@ -130,12 +144,8 @@ fn steps_on<'a, L: InputLedger>(
     let (mut board, mut share) = open_board::<L>(alloc, plan, blank)?;
     assert!(rt; board.is_over(plan) && board.deposited() == 0);
     assert_eq!(rt; board.open_spans(), plan.len());
-    for (span, pieces, deposited, waiting) in steps {
-        assert!(rt; board.root().is_none());
-        assert!(rt; deposit(rt, &mut board, &mut share, plan, *span).is_ok());
-        assert_pieces(rt, &board, *pieces);
-        let want = (*deposited, *waiting, *deposited);
-        assert_eq!(rt; counts(&board, &share), want);
+    for step in steps {
+        assert_step(rt, &mut board, &mut share, plan, step);
     }
     assert_root(rt, &board, plan.input());
     assert_eq!(rt; board.open_span(0), None);
@@ -160,6 +170,18 @@ fn five_chunks(rt: HostRuntime) -> Result<(), Fail> {
     steps(&rt, rt.alloc(), &plan, &rows)
 }
 
+fn deposit_in<'a, L: InputLedger>(
+    rt: &impl Abort,
+    board: &mut MemoryBoard<'a, L>,
+    share: &mut Share<L>,
+    plan: &Plan<'a>,
+    order: &[usize],
+) {
+    for i in order {
+        assert!(rt; deposit(rt, board, share, plan, *i).is_ok());
+    }
+}
+
 // Deposits the spans of the plan in this order, and finds the top so many times.
 fn order_on<'a, L: InputLedger>(
     rt: &impl Abort,
@@ -175,9 +197,7 @@ fn order_on<'a, L: InputLedger>(
     requires own { IsPlanOf L.input L.mode L.first plan.now }
 {
     let (mut board, mut share) = open_board::<L>(alloc, plan, blank)?;
-    for i in order {
-        assert!(rt; deposit(rt, &mut board, &mut share, plan, *i).is_ok());
-    }
+    deposit_in(rt, &mut board, &mut share, plan, order);
     assert_eq!(rt; share.chunks(), board.deposited());
     let want = root_of(rt, plan.input());
     for _ in 0..times {

@@ -22,27 +22,43 @@ fn try_claim(claims: &Claims, seat: &mut Seat, i: usize) -> bool
     claims.try_claim(seat, i)
 }
 
+// Whether a claim of `i` is taken, and what the seat has claimed then.
+fn assert_claim(
+    rt: &impl Abort,
+    claims: &Claims,
+    seat: &mut Seat,
+    i: usize,
+    is_taken: bool,
+    claimed: &[u32],
+)
+    requires index { i < claims.now.count }
+    requires own { IsSeatOf claims.now seat.old }
+    ensures own { IsSeatOf claims.now seat.new }
+    ensures parts { seat.new.view.parts ≡ seat.old.view.parts }
+{
+    assert_eq!(rt; try_claim(claims, seat, i), is_taken);
+    assert_eq!(rt; seat.claimed(), claimed);
+}
+
+fn assert_seat(rt: &impl Abort, seat: &Seat, parts: u32, claimed: &[u32]) {
+    assert_eq!(rt; (seat.parts(), seat.claimed()), (parts, claimed));
+}
+
 #[test]
 fn three_seats_claim_in_turn(rt: HostRuntime) -> Result<(), Fail> {
     let (claims, mut first) = Claims::new(rt.alloc(), 3)?;
-    assert!(&rt; first.parts() == 128 && first.claimed().is_empty());
+    assert_seat(&rt, &first, 128, &[]);
     let mut second = claims.split(&mut first);
     let mut third = claims.split(&mut first);
     assert_eq!(&rt; (first.parts(), second.parts(), third.parts()), (126, 1, 1));
-    assert!(&rt; try_claim(&claims, &mut second, 2));
-    assert!(&rt; !try_claim(&claims, &mut second, 2));
-    assert_eq!(&rt; second.claimed(), [2u32].as_slice());
-    assert!(&rt; !try_claim(&claims, &mut third, 2));
-    assert!(&rt; try_claim(&claims, &mut third, 0));
-    assert_eq!(&rt; third.claimed(), [0u32].as_slice());
-    assert!(&rt; try_claim(&claims, &mut first, 1));
-    assert_eq!(&rt; first.claimed(), [1u32].as_slice());
+    assert_claim(&rt, &claims, &mut second, 2, true, &[2]);
+    assert_claim(&rt, &claims, &mut second, 2, false, &[2]);
+    assert_claim(&rt, &claims, &mut third, 2, false, &[]);
+    assert_claim(&rt, &claims, &mut third, 0, true, &[0]);
+    assert_claim(&rt, &claims, &mut first, 1, true, &[1]);
     claims.join(&mut first, second);
     claims.join(&mut first, third);
-    assert_eq!(&rt;
-        (first.parts(), first.claimed()),
-        (128, [1u32, 2, 0].as_slice())
-    );
+    assert_seat(&rt, &first, 128, &[1, 2, 0]);
     assert_eq!(&rt; claims.close(first).as_slice(), [1u32, 2, 0].as_slice());
     Ok(())
 }

@@ -142,6 +142,23 @@ fn work_beside<'a, L: InputLedger + Send + Sync, R: Threads + Wait + Abort + Syn
     Ok((ended, theirs))
 }
 
+// The worker claimed each span, the two deposited all that the board has, and nothing is left to sweep.
+fn assert_all_done<'a, L: InputLedger>(
+    rt: &impl Abort,
+    plan: &Plan<'a>,
+    mut board: MemoryBoard<'a, L>,
+    ended: &Ended<L>,
+    mut theirs: Share<L>,
+) {
+    assert_eq!(rt; ended.seat.claimed().len(), plan.len());
+    assert_eq!(rt;
+        ended.share.chunks().wrapping_add(theirs.chunks()),
+        board.deposited()
+    );
+    assert_eq!(rt; sweep(&mut board, &mut theirs), 0);
+    assert_root(rt, &board, plan.input());
+}
+
 fn beside_on<'a, L: InputLedger + Send + Sync, R: Threads + Wait + Abort + Sync>(
     rt: &R,
     alloc: Global,
@@ -158,15 +175,8 @@ fn beside_on<'a, L: InputLedger + Send + Sync, R: Threads + Wait + Abort + Sync>
     assert!(rt; share.parts() == 128);
     let theirs = share.split();
     let board = Mutex::new(board);
-    let (ended, mut theirs) = work_beside(rt, alloc, &board, share, theirs, plan, strangers)?;
-    let mut board = board.into_inner();
-    assert_eq!(rt; ended.seat.claimed().len(), plan.len());
-    assert_eq!(rt;
-        ended.share.chunks().wrapping_add(theirs.chunks()),
-        board.deposited()
-    );
-    assert_eq!(rt; sweep(&mut board, &mut theirs), 0);
-    assert_root(rt, &board, plan.input());
+    let (ended, theirs) = work_beside(rt, alloc, &board, share, theirs, plan, strangers)?;
+    assert_all_done(rt, plan, board.into_inner(), &ended, theirs);
     Ok(())
 }
 

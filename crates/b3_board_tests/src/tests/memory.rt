@@ -137,8 +137,8 @@ fn share_calls<'a, L: InputLedger>(
     share.split()
 }
 
-// The readers of a plan of three chunks, of what is done, of a board with nothing left to do, and of its root.
-fn reader_calls<'a, L: InputLedger>(rt: &impl Abort, plan: &Plan<'a>, board: &MemoryBoard<'a, L>) {
+// The readers of a plan of three chunks, and of what is done.
+fn plan_calls(rt: &impl Abort, plan: &Plan) {
     assert_eq!(rt;
         (plan.input().len(), plan.first(), plan.len()),
         (3000, 0, 3)
@@ -146,6 +146,10 @@ fn reader_calls<'a, L: InputLedger>(rt: &impl Abort, plan: &Plan<'a>, board: &Me
     assert!(rt; plan.mode() == Mode::hash() && plan.span(3).is_none());
     let done = plan.job(2).expect(rt, "a job").work();
     assert!(rt; done.span() == span(2, 1) && done.node().d == 2);
+}
+
+// The readers of a board of three chunks with nothing left to do, and of its root.
+fn board_calls<'a, L: InputLedger>(rt: &impl Abort, plan: &Plan<'a>, board: &MemoryBoard<'a, L>) {
     assert!(rt; board.is_over(plan) && board.input().len() == 3000);
     assert_eq!(rt;
         (board.open_spans(), board.deposited(), board.waiting()),
@@ -208,7 +212,8 @@ fn growths_on<'a, L: InputLedger, R: Wait + Abort>(
     let mut board = board.into_inner();
     assert_eq!(rt; default_grain(3), 16);
     assert_eq!(rt; (sweep(&mut board, &mut share), share.chunks()), (0, 1));
-    reader_calls(rt, plan, &board);
+    plan_calls(rt, plan);
+    board_calls(rt, plan, &board);
     last_growth(alloc)
 }
 

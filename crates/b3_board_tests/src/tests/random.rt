@@ -58,6 +58,22 @@ pub fn cut_at_random(
     Ok(cutting)
 }
 
+// The numbers below `n`, in an order at random.
+fn order_at_random(
+    rt: &impl Abort,
+    alloc: Global,
+    rng: &mut Rng,
+    n: usize,
+) -> Result<Vec<usize>, AllocError> {
+    let mut order = Vec::with_capacity(alloc, n)?;
+    for i in 0..n {
+        let place = rng.below(i as u64 + 1) as usize;
+        assert!(rt; place <= order.len());
+        order.insert(place, i)?;
+    }
+    Ok(order)
+}
+
 // A length, and one in how many subtrees is not cut further. The first turn has 1,024 spans; of the others most
 // are small, so that the test ends soon however it is compiled.
 fn lengths_at_random(rng: &mut Rng, turn: usize) -> (usize, u64)
@@ -85,15 +101,7 @@ fn random_cuttings_and_orders(rt: HostRuntime) -> Result<(), Fail> {
         let cutting = cut_at_random(&rt, alloc, &mut rng, n, whole)?;
         let plan = by_cutting(alloc, part, &cutting)?;
         assert!(&rt; turn > 0 || plan.len() == 1024);
-        let mut order = Vec::with_capacity(alloc, plan.len())?;
-        for i in 0..plan.len() {
-            order.push(i)?;
-        }
-        for i in 0..order.len() {
-            let other = rng.below(i as u64 + 1) as usize;
-            assert!(&rt; other < order.len());
-            order.swap(i, other);
-        }
+        let order = order_at_random(&rt, alloc, &mut rng, plan.len())?;
         in_order(&rt, alloc, &plan, &order, 1)?;
     }
     Ok(())

@@ -188,7 +188,7 @@ fn each_length_of_a_region_after_another(rt: HostRuntime) -> Result<(), Fail> {
     assert_lengths(&rt, rt.alloc(), 8 * 1024, &Yielding)
 }
 
-// Bytes that are not there are not made up, and a buffer that is shorter than a span and than a piece takes none.
+// Bytes that are not there are not made up.
 #[test]
 fn too_few_bytes(rt: HostRuntime) -> Result<(), Fail> {
     let input = pattern(rt.alloc(), 9 * 1024)?;
@@ -197,35 +197,32 @@ fn too_few_bytes(rt: HostRuntime) -> Result<(), Fail> {
         let found = read_part(&rt, rt.alloc(), &source, 0, len, 2, &OpenGate)?;
         assert!(&rt; found.is_none(), "{len} bytes");
     }
-    let mut buffer = [0; 2047];
-    let found = hash_part(
-        &rt,
-        rt.alloc(),
-        &source,
-        0,
-        9 * 1024,
-        2,
-        1,
-        &mut buffer,
-        &OpenGate,
-    )?;
-    assert!(&rt; found.is_none());
+    Ok(())
+}
+
+// A buffer that is shorter than a span and than a piece takes none.
+#[test]
+fn too_short_a_buffer(rt: HostRuntime) -> Result<(), Fail> {
     let input = pattern(rt.alloc(), MEBIBYTE)?;
     let source = Silent::good(input.as_slice(), 0);
-    for (len, is_taken) in [(PIECE_LEN - 1, false), (PIECE_LEN, true)] {
-        let mut buffer = vec![in rt.alloc(); 0u8; len]?;
+    for (room, len, grain, is_taken) in [
+        (2047, 9 * 1024, 2, false),
+        (PIECE_LEN - 1, MEBIBYTE, 1024, false),
+        (PIECE_LEN, MEBIBYTE, 1024, true),
+    ] {
+        let mut buffer = vec![in rt.alloc(); 0u8; room]?;
         let found = hash_part(
             &rt,
             rt.alloc(),
             &source,
             0,
-            MEBIBYTE as u64,
-            1024,
+            len as u64,
+            grain,
             1,
             &mut buffer,
             &OpenGate,
         )?;
-        assert_eq!(&rt; found.is_some(), is_taken);
+        assert_eq!(&rt; found.is_some(), is_taken, "{room} bytes");
     }
     Ok(())
 }
