@@ -36,7 +36,7 @@ ZSH = $(SHARE)/zsh/site-functions
 INSTALL = install
 
 # The version is written down where the program prints it.
-VERSION := $(shell sed -n 's/.*\.version("\(.*\)").*/\1/p' crates/b3sum/src/command.rt)
+VERSION := $(shell sed -n 's/.*\.version("\(.*\)").*/\1/p' crates/b3_call/src/command.rt)
 
 # The level of x86-64 to build for: the program may use its instructions and those of all levels below.
 CPU := $(if $(shell grep -m 1 -o -w avx2 /proc/cpuinfo 2>/dev/null),x86-64-v3,x86-64-v2)

@@ -3,10 +3,10 @@
 from dataclasses import dataclass
 
 # Chains of calls from `main` down: each function calls the next.
-TO_CALL = (("b3sum/src/main.rt", "main"), ("b3sum/src/call.rt", "call_with"))
+TO_CALL = (("b3sum/src/main.rt", "main"), ("b3_call/src/call.rt", "call_with"))
 TO_SHELF = (*TO_CALL, ("b3_program/src/files.rt", "FileShelf::new"))
 TO_OUTPUT = (*TO_CALL, ("b3_program/src/outputs.rt", "OutputSink::new"))
-TO_TASK = (*TO_CALL, ("b3sum/src/call.rt", "run_call"), ("b3_program/src/run.rt", "run_words"),
+TO_TASK = (*TO_CALL, ("b3_call/src/call.rt", "run_call"), ("b3_program/src/run.rt", "run_words"),
            ("b3_program/src/run.rt", "run_task"))
 TO_RUN = (*TO_TASK, ("b3_program/src/run.rt", "run_over_files"), ("b3_program/src/jobs.rt", "run_job"),
           ("b3_program/src/jobs.rt", "run_engine"))
@@ -121,8 +121,8 @@ LAWS = (
 
 CONTRACT = Law("The program's contract",
                "From the arguments to both outputs and the status, over a disk and an input that may tell.",
-               (Clauses("b3sum/src/call.rt", "call_with"), Clauses("b3sum/src/call.rt", "run_call")),
-               ((*TO_CALL, ("b3sum/src/call.rt", "run_call")),))
+               (Clauses("b3_call/src/call.rt", "call_with"), Clauses("b3_call/src/call.rt", "run_call")),
+               ((*TO_CALL, ("b3_call/src/call.rt", "run_call")),))
 
 LIBRARIES = (
     Law("The hasher", "Any cutting of an input into pieces has the one output, from any place on.",

@@ -4,17 +4,9 @@
 //! do what they ask for.
 #![tactic(auto)]
 
-mod arguments;
-mod call;
-mod command;
-#[cfg(test)]
-mod tests;
-mod words;
-
-use arguments::arguments;
 use b3_board::OpenGate;
+use b3_call::{arguments, call_with};
 use b3_program::{INPUT_PATHS, RealDisk, RealInput};
-use call::call_with;
 use std::process::ExitCode;
 
 fn main(rt: HostRuntime) -> ExitCode {

@@ -1,0 +1,129 @@
+//! A call of the program, from its arguments to its status.
+
+ghost use Rattle.std.specs.Prelude.{◌^◌, ◌<◌, ◌&&◌, IfErr, IfOk};
+ghost use Rattle.b3_check.specs.Runs.{io_state};
+ghost use Rattle.b3_program.specs.Files.{contents_with, rest_of, told_if};
+ghost use Rattle.b3_call.specs.Calls.{AreWordsOf, CallsWith, EndsCall, IsStopOf, texts_in};
+
+use crate::words::read_words;
+use b3_board::Gate;
+use b3_check::{Shelf, Sink};
+use b3_program::{
+    ClearingSink, CountingShelf, Disk, FileShelf, Input, OutputSink, Progress, Stop, Words,
+    run_words,
+};
+use std::alloc::Global;
+use std::io::{self, IsTerminal, Write};
+use std::rt::{Clock, Stderr, Stdout};
+use std::sync::Wait;
+use std::thread::Threads;
+
+/// Standard output alone: so that no other stream is handed over for it.
+pub trait StandardOutput {}
+
+impl StandardOutput for Stdout {}
+
+/// Standard error alone.
+pub trait StandardError {}
+
+impl StandardError for Stderr {}
+
+/// What a call leaves: its status, and its outputs with what was written.
+#[derive(Drop)]
+pub struct Called<O, E> {
+    pub status: u8,
+    pub out: O,
+    pub err: E,
+}
+
+/// Does what the arguments of a call ask for, over a disk, an input and two outputs.
+///
+/// The line of progress goes through a second handle of standard error: the outputs hold what is said, and no line.
+pub fn call_with<
+    R: Threads + Wait + Clock + Sync,
+    D: Disk + Drop + Send + Sync,
+    I: Input + Send + Sync,
+    O: Write + IsTerminal + StandardOutput,
+    E: Write + IsTerminal + StandardError + Copy + Send,
+    G: Gate + Sync,
+>(
+    rt: &R,
+    alloc: Global,
+    arguments: io::Result<Vec<String>>,
+    disk: D,
+    input: I,
+    out: O,
+    err: E,
+    gate: &G,
+) -> Called<O, E>
+where
+    D::File: Send + Sync,
+    I::File: Send + Sync,
+    ensures { CallsWith (texts_in arguments)
+        (told_if (D.File.tells && I.tells && I.File.tells)
+        (contents_with (D.contents disk) (rest_of I.content I.position input)))
+        (O.contents out) (E.contents err) (O.contents result.out) (E.contents result.err) result.status }
+{
+    // Over a terminal each line is seen as soon as it is due.
+    let is_gathering = !out.is_terminal();
+    let is_terminal = err.is_terminal();
+    let progress = Progress::new(alloc, rt, err, is_terminal);
+    let mut shelf = CountingShelf::new(alloc, FileShelf::new(disk, input), &progress);
+    let out = OutputSink::new(out).gathering(is_gathering);
+    let mut out = ClearingSink::new(rt, out, !is_gathering, &progress);
+    let mut err = ClearingSink::new(rt, OutputSink::new(err), is_terminal, &progress);
+    let status = run_call(
+        rt, alloc, arguments, &mut shelf, &mut out, &mut err, gate, &progress,
+    );
+    progress.clear(rt);
+    Called {
+        status,
+        out: out.into_inner().into_writer(),
+        err: err.into_inner().into_writer(),
+    }
+}
+
+/// Does what the arguments of a call ask for, and answers the status of the program. Where they ask for it, progress is
+/// shown from then on.
+pub fn run_call<
+    R: Threads + Wait + Sync,
+    S: Shelf + Send + Sync,
+    O: Sink,
+    E: Sink,
+    G: Gate + Sync,
+    C: Clock,
+    W: Write,
+>(
+    rt: &R,
+    alloc: Global,
+    arguments: io::Result<Vec<String>>,
+    shelf: &mut S,
+    out: &mut O,
+    err: &mut E,
+    gate: &G,
+    progress: &Progress<C, W>,
+) -> u8
+    requires shelf_failures { S.failures shelf.old < 2 ^ 63 }
+    requires out_failures { O.failures out.old < 2 ^ 63 }
+    requires err_failures { E.failures err.old < 2 ^ 63 }
+    ensures { EndsCall (texts_in arguments)
+        (io_state S.Shelf O.Sink E.Sink shelf.old out.old err.old)
+        (io_state S.Shelf O.Sink E.Sink shelf.new out.new err.new) result }
+{
+    match read_arguments(alloc, arguments) {
+        Ok(words) => {
+            progress.show_if(words.wants_progress());
+            run_words(rt, alloc, shelf, words, out, err, gate)
+        }
+        Err(stop) => stop.say(out, err),
+    }
+}
+
+// The words of the arguments, of which the first is the program's own name.
+fn read_arguments(alloc: Global, arguments: io::Result<Vec<String>>) -> Result<Words, Stop>
+    ensures words { IfOk result (AreWordsOf (texts_in arguments)) }
+    ensures stop { IfErr result (IsStopOf (texts_in arguments)) }
+{
+    let arguments = arguments?;
+    read_words(alloc, arguments.as_slice())
+}

@@ -1,0 +1,5 @@
+mod arguments;
+mod calls;
+mod lists;
+mod progress;
+mod words;

@@ -1,0 +1,348 @@
+// Whole calls, from their arguments to their texts and their status.
+
+ghost use Rattle.std.specs.Prelude.{◌≡◌, IfOk};
+
+use b3_board::OpenGate;
+use b3_call::run_call;
+use b3_check::{MemoryShelf, MemorySink, Shelf, Sink};
+use b3_program::{FileShelf, MemoryFile, OutputSink, Progress, RealDisk};
+use std::alloc::{AllocError, Global};
+use std::io;
+use std::process::Abort;
+use std::rt::Clock;
+use std::sync::Wait;
+use std::thread::Threads;
+
+// Progress that is never shown.
+fn silent<R: Clock>(rt: &R, alloc: Global) -> Progress<&R, Vec<u8>> {
+    Progress::new(alloc, rt, Vec::new(alloc), false)
+}
+
+const EMPTY_LINE: &[u8] = b"af1349b9f5f9a1a6a0404dea36dcc9499bcb25c9adc112b7cc9a93cae41f3262  -\n";
+
+/// The arguments of a call with these words, after the program's name.
+pub fn arguments(alloc: Global, words: &[&str]) -> Result<Vec<String>, AllocError> {
+    let mut all = Vec::new(alloc);
+    all.push(String::from_str(alloc, "b3sum")?)?;
+    for word in words {
+        all.push(String::from_str(alloc, word)?)?;
+    }
+    Ok(all)
+}
+
+/// A call over this shelf, which writes these texts and ends with this status.
+pub fn assert_call<R: Abort + Threads + Wait + Clock + Sync, S: Shelf + Send + Sync>(
+    rt: &R,
+    alloc: Global,
+    shelf: &mut S,
+    words: &[&str],
+    out: &[u8],
+    err: &[u8],
+    status: u8,
+) -> Result<(), AllocError>
+    requires { S.failures shelf.old ≡ 0 }
+{
+    let mut out_sink = MemorySink::new(alloc);
+    let mut err_sink = MemorySink::new(alloc);
+    let words = Ok(arguments(alloc, words)?);
+    let ended = run_call(
+        rt,
+        alloc,
+        words,
+        shelf,
+        &mut out_sink,
+        &mut err_sink,
+        &OpenGate,
+        &silent(rt, alloc),
+    );
+    assert_eq!(rt; out_sink.bytes(), out);
+    assert_eq!(rt; err_sink.bytes(), err);
+    assert_eq!(rt; ended, status);
+    Ok(())
+}
+
+// A call over the program's own shelf, with no file but its input. It is a macro, since what a function sends to
+// a thread may not rest on a bound of its own.
+macro_rules! assert_piped {
+    ($rt:expr, $input:expr, $words:expr, $out:expr, $err:expr, $status:expr $(,)?) => {{
+        let input: &[u8] = $input;
+        let mut shelf = FileShelf::new(RealDisk::new($rt), MemoryFile::new(input));
+        assert_call($rt, $rt.alloc(), &mut shelf, $words, $out, $err, $status)
+    }};
+}
+
+#[test]
+fn standard_input_has_its_line(rt: HostRuntime) -> Result<(), AllocError> {
+    assert_piped!(&rt, b"", &[], EMPTY_LINE, b"", 0)?;
+    assert_piped!(
+        &rt,
+        b"",
+        &["--num-threads", "65535", "--no-mmap", "-"],
+        EMPTY_LINE,
+        b"",
+        0,
+    )?;
+    assert_piped!(&rt, b"", &["--length", "1"], b"af  -\n", b"", 0)?;
+    assert_piped!(&rt, b"", &["--length", "0"], b"  -\n", b"", 0)?;
+    let derived = b"2cc39783c223154fea8dfb7c1b1660f2ac2dcbd1c1de8277b0b0dd39b7e50d7d  -\n";
+    let context = "BLAKE3 2019-12-27 16:29:52 test vectors context";
+    assert_piped!(&rt, b"", &["--derive-key", context], derived, b"", 0)
+}
+
+#[test]
+fn standard_input_is_read_once(rt: HostRuntime) -> Result<(), AllocError> {
+    let words = ["-", "-"];
+    assert_piped!(&rt, b"", &words, EMPTY_LINE, b"b3sum: -: cannot read\n", 1)?;
+    let list = b"af1349b9f5f9a1a6a0404dea36dcc9499bcb25c9adc112b7cc9a93cae41f3262  -\n";
+    let warning = b"b3sum: WARNING: 1 computed checksum did NOT match\n";
+    assert_piped!(
+        &rt,
+        list,
+        &["--check"],
+        b"-: FAILED (cannot read)\n",
+        warning,
+        1,
+    )
+}
+
+// A list of a right line, a missing name and an empty line, and one that is empty.
+fn two_lists(alloc: Global) -> Result<MemoryShelf, AllocError>
+    ensures { IfOk result (λ shelf. ⟦<MemoryShelf as Shelf>⟧.failures shelf ≡ 0) }
+{
+    let mut shelf = MemoryShelf::new(alloc);
+    shelf.put("x", b"\0")?;
+    shelf.put("empty", b"")?;
+    shelf.put(
+        "l",
+        b"2d3adedff11b61f14c886e35afa036736dcd87a74d27b5c1510225d0f592e213  x\n\
+          2d3adedff11b61f14c886e35afa036736dcd87a74d27b5c1510225d0f592e213  none\n\n",
+    )?;
+    Ok(shelf)
+}
+
+#[test]
+fn a_check_with_all_its_words(rt: HostRuntime) -> Result<(), AllocError> {
+    let alloc = rt.alloc();
+    let words = ["-c", "-w", "--ignore-missing", "--strict", "l", "empty"];
+    let err = b"b3sum: l: line 3: empty line\n\
+                b3sum: empty: no file was verified\n\
+                b3sum: empty: no check line found\n\
+                b3sum: WARNING: 1 computed checksum did NOT match\n";
+    let mut shelf = two_lists(alloc)?;
+    assert_call(&rt, alloc, &mut shelf, &words, b"x: OK\n", err, 1)?;
+    let words = [
+        "-c",
+        "--status",
+        "--ignore-missing",
+        "--strict",
+        "l",
+        "empty",
+    ];
+    let mut shelf = two_lists(alloc)?;
+    assert_call(&rt, alloc, &mut shelf, &words, b"", b"", 1)
+}
+
+// Words that ask for what cannot be done, and what is said of them.
+const REFUSED: &[(&[&str], &str)] = &[
+    (
+        &["--check", "--raw", "--keyed"],
+        "b3sum: --check cannot be used with --keyed\n",
+    ),
+    (
+        &["-c", "-l", "1", "--derive-key", "c"],
+        "b3sum: --check cannot be used with --derive-key\n",
+    ),
+    (
+        &["-c", "--raw", "-l", "1"],
+        "b3sum: --check cannot be used with --length\n",
+    ),
+    (
+        &["-c", "--no-names", "--raw"],
+        "b3sum: --check cannot be used with --raw\n",
+    ),
+    (
+        &["-c", "--no-names"],
+        "b3sum: --check cannot be used with --no-names\n",
+    ),
+    (
+        &["--keyed", "--derive-key", "c"],
+        "b3sum: --keyed cannot be used with --derive-key\n",
+    ),
+    (
+        &["--keyed", "--derive-key", "c", "--quiet"],
+        "b3sum: --keyed cannot be used with --derive-key\n",
+    ),
+    (&["--quiet"], "b3sum: --quiet needs --check\n"),
+    (
+        &["--quiet", "--raw", "e", "e"],
+        "b3sum: --quiet needs --check\n",
+    ),
+    (&["--raw", "e", "e"], "b3sum: --raw takes one input\n"),
+    (
+        &["--raw", "--keyed", "-", "e"],
+        "b3sum: --raw takes one input\n",
+    ),
+    (
+        &["--check", "--tag", "--seek", "1"],
+        "b3sum: --check cannot be used with --seek\n",
+    ),
+    (
+        &["--check", "--seek", "0", "-l", "32"],
+        "b3sum: --check cannot be used with --length\n",
+    ),
+    (
+        &["--check", "--tag", "--no-names"],
+        "b3sum: --check cannot be used with --no-names\n",
+    ),
+    (
+        &["--check", "--tag"],
+        "b3sum: --check cannot be used with --tag\n",
+    ),
+    (
+        &["--tag", "--raw", "--no-names"],
+        "b3sum: --tag cannot be used with --raw\n",
+    ),
+    (
+        &["--tag", "--no-names", "--seek", "18446744073709551615"],
+        "b3sum: --tag cannot be used with --no-names\n",
+    ),
+    (
+        &["--keyed", "--tag", "--raw"],
+        "b3sum: --keyed needs files\n",
+    ),
+    (&["--keyed"], "b3sum: --keyed needs files\n"),
+    (&["--keyed", "e", "-"], "b3sum: --keyed needs files\n"),
+    (
+        &["--ignore-missing", "--status", "--strict", "-w"],
+        "b3sum: --ignore-missing needs --check\n",
+    ),
+    (
+        &["-w", "--strict", "--status"],
+        "b3sum: --status needs --check\n",
+    ),
+    (&["-w", "--strict"], "b3sum: --strict needs --check\n"),
+    (&["-w", "e"], "b3sum: --warn needs --check\n"),
+    (
+        &["--ignore-missing", "--quiet"],
+        "b3sum: --quiet needs --check\n",
+    ),
+    (
+        &["--status", "--seek", "18446744073709551615"],
+        "b3sum: --seek and --length pass the end of the output\n",
+    ),
+    (
+        &["--check", "--strict", "--tag"],
+        "b3sum: --check cannot be used with --tag\n",
+    ),
+    (
+        &["--files0-from", "n", "e"],
+        "b3sum: --files0-from takes no FILE\n",
+    ),
+    (
+        &["--files0-from", "n", "--check", ""],
+        "b3sum: --files0-from takes no FILE\n",
+    ),
+    (
+        &["--files0-from", "n", "-w", "e"],
+        "b3sum: --warn needs --check\n",
+    ),
+    (
+        &["--files0-from", "n", "--seek", "18446744073709551615", "e"],
+        "b3sum: --seek and --length pass the end of the output\n",
+    ),
+    (
+        &["--files0-from", "-", "--keyed"],
+        "b3sum: --keyed needs files\n",
+    ),
+    (
+        &["--files0-from", "n", "--raw", "e", "e"],
+        "b3sum: --raw takes one input\n",
+    ),
+];
+
+fn refused() -> &'static [(&'static [&'static str], &'static str)] {
+    REFUSED
+}
+
+#[test]
+fn words_that_ask_for_nothing_that_can_be_done(rt: HostRuntime) -> Result<(), AllocError> {
+    for (words, err) in refused() {
+        assert_piped!(&rt, b"", words, b"", err.as_bytes(), 2)?;
+    }
+    Ok(())
+}
+
+#[test]
+fn arguments_that_cannot_be_had(rt: HostRuntime) {
+    let rows = [
+        (
+            io::ErrorKind::InvalidData,
+            "b3sum: an argument is not text\n",
+            2,
+        ),
+        (io::ErrorKind::OutOfMemory, "b3sum: out of memory\n", 1),
+    ];
+    for (kind, text, status) in &rows {
+        let mut shelf = FileShelf::new(RealDisk::new(&rt), MemoryFile::new(b""));
+        let mut out = MemorySink::new(rt.alloc());
+        let mut err = MemorySink::new(rt.alloc());
+        let arguments = Err(io::Error::from(*kind));
+        let ended = run_call(
+            &rt,
+            rt.alloc(),
+            arguments,
+            &mut shelf,
+            &mut out,
+            &mut err,
+            &OpenGate,
+            &silent(&rt, rt.alloc()),
+        );
+        assert!(rt; out.bytes().is_empty());
+        assert_eq!(rt; err.bytes(), text.as_bytes());
+        assert_eq!(rt; ended, *status);
+    }
+}
+
+// A call with these words, whose output takes three bytes.
+fn assert_cut_short<R: Abort + AllocGlobal + Threads + Wait + Clock + Sync, S: Shelf + Send + Sync>(
+    rt: &R,
+    shelf: &mut S,
+    words: &[&str],
+) -> Result<(), AllocError>
+    requires { S.failures shelf.old ≡ 0 }
+{
+    let mut buffer = [0; 3];
+    let mut out = OutputSink::new(buffer.as_mut_slice());
+    let mut err = MemorySink::new(rt.alloc());
+    let words = Ok(arguments(rt.alloc(), words)?);
+    let silent = silent(rt, rt.alloc());
+    let ended = run_call(
+        rt,
+        rt.alloc(),
+        words,
+        shelf,
+        &mut out,
+        &mut err,
+        &OpenGate,
+        &silent,
+    );
+    assert_eq!(rt; err.bytes(), b"b3sum: cannot write\n".as_slice());
+    assert_eq!(rt; ended, 1);
+    Ok(())
+}
+
+#[test]
+fn an_output_that_is_full(rt: HostRuntime) -> Result<(), AllocError> {
+    let mut shelf = FileShelf::new(RealDisk::new(&rt), MemoryFile::new(b""));
+    assert_cut_short(&rt, &mut shelf, &[])?;
+    let mut shelf = FileShelf::new(RealDisk::new(&rt), MemoryFile::new(b""));
+    assert_cut_short(&rt, &mut shelf, &["--help"])?;
+    let mut shelf = FileShelf::new(RealDisk::new(&rt), MemoryFile::new(b""));
+    assert_cut_short(&rt, &mut shelf, &["--version"])?;
+    let mut shelf = two_lists(rt.alloc())?;
+    assert_cut_short(
+        &rt,
+        &mut shelf,
+        &["-c", "-w", "--ignore-missing", "--strict", "l"],
+    )
+}
