@@ -81,5 +81,5 @@ def link():
     shutil.copytree(OBJECTS, LINKED)
     run("./link", cwd=LINKED)
     run(KIT / "bin/rattle-link", "--target", "x86_64-unknown-linux-gnu", "--toolchain", KIT / "toolchain", "-o", DYNAMIC,
-        *(LINKED / it for it in ("choose.o", "b3sum_v2.o", "b3sum_v3.o")), *OF_KIT)
+        *(LINKED / it for it in ("choose.o", "b3sum_v3.o", "b3sum_v2.o")), *OF_KIT)
     run("strip", DYNAMIC)
