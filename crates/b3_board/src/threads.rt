@@ -39,9 +39,9 @@ fn all_from<R: Threads + Sync, T: Send, F: Fn(usize, &mut T) + Sync>(
     one_beside_rest(rt, f, base, first, rest);
 }
 
-// The first in a thread of its own, while this one starts those for the others. Its frame is no multiple of 32 bytes. As it is
-// not inlined, there is one for each thread that this one starts: so where these are even in number, the vectors of the code
-// on lanes lie in this thread as in those.
+// The first in a thread of its own, while this one starts those for the others. As it is not inlined, there is one frame of it
+// for each thread that this one starts. It is a multiple of 32 bytes, since `one` moves what it takes and no copy of it is
+// kept beside: so the vectors of the code on lanes lie in this thread as in those, however many there are.
 #[cycle(chain)]
 #[inline(never)]
 fn one_beside_rest<R: Threads + Sync, T: Send, F: Fn(usize, &mut T) + Sync>(
@@ -58,7 +58,7 @@ fn one_beside_rest<R: Threads + Sync, T: Send, F: Fn(usize, &mut T) + Sync>(
     ensures rest { ChangesFrom (ChangesAt F.Fn f.now) (base + 1) rest.old rest.new }
 {
     let next = base + 1;
-    let mut one = ||
+    let mut one = move ||
         requires { IsSync F.row × IsSend T.row × (length first.now ≡ 1)
             × AllFrom (AcceptsAt F.Fn f.now) base first.now }
         ensures { ChangesFrom (ChangesAt F.Fn f.entry.now) base first.entry.now first.exit.now }
