@@ -1,5 +1,5 @@
 # make              proves the program, and builds ./b3sum for this processor; with CPU=x86-64-v2 for all that have SSE 4.2,
-#                   as most x86-64 processors since 2009
+#                   and with CPU=x86-64 for all of that kind
 # make install      installs it, its manual page and its completions for bash, zsh and fish below PREFIX, which is
 #                   /usr/local; make uninstall removes them
 # make lib          proves the hasher, and builds it as a C library, libb3.a and libb3.so, for this processor or CPU
@@ -39,7 +39,8 @@ INSTALL = install
 VERSION := $(shell sed -n 's/.*\.version("\(.*\)").*/\1/p' crates/b3_call/src/command.rt)
 
 # The level of x86-64 to build for: the program may use its instructions and those of all levels below.
-CPU := $(if $(shell grep -m 1 -o -w avx2 /proc/cpuinfo 2>/dev/null),x86-64-v3,x86-64-v2)
+has = $(shell grep -m 1 -o -w $(1) /proc/cpuinfo 2>/dev/null)
+CPU := $(if $(call has,avx2),x86-64-v3,$(if $(call has,sse4_2),x86-64-v2,x86-64))
 FLAGS = --cpu=$(CPU)
 
 # The gate runs as many tasks at once as there are processors, as long as each has 5 GiB of free memory.
@@ -97,7 +98,7 @@ libb3.a: $(LIBRARY_SOURCES) libb3.cpu
 # The loader refuses it on a processor below that level.
 libb3.so.0: libb3.a
 	$(CC) -shared -o $@ -Wl,--whole-archive libb3.a -Wl,--no-whole-archive -Wl,-soname,$@ \
-	    -Wl,-z,text -Wl,-z,defs -Wl,-z,now -Wl,-z,$(CPU)
+	    -Wl,-z,text -Wl,-z,defs -Wl,-z,now $(addprefix -z ,$(filter-out x86-64,$(CPU)))
 
 libb3.so: libb3.so.0
 	ln -sf $< $@

@@ -1,5 +1,5 @@
 """Proves, compiles and links what a release holds, in out/release: for each level of x86-64 the objects, which the kit
-makes, and the shared library; and of the objects of both levels one program, linked statically and with the system's libc."""
+makes, and the shared library; and of the objects of all levels one program, linked statically and with the system's libc."""
 
 import shutil
 import subprocess
@@ -29,7 +29,7 @@ def missing():
         if subprocess.run(words, stdout=subprocess.DEVNULL, stderr=subprocess.DEVNULL).returncode:
             lines.append("sys/platform/x86.h is not there: it is a part of glibc from 2.33 on (Debian: libc6-dev)")
     if " avx2 " not in Path("/proc/cpuinfo").read_text():
-        lines.append(f"this processor has no AVX2: rt runs what it builds, and so cannot build for {LEVELS[1]}")
+        lines.append(f"this processor has no AVX2: rt runs what it builds, and so cannot build for {LEVELS[-1]}")
     return lines
 
 
@@ -50,10 +50,15 @@ def proved(product, level):
             sys.stdout.flush()
             lines.append(line.strip())
     found = [line for line in lines if line.startswith("logic=proved ")]
-    if prover.returncode or len(found) != 1 or f"cpu={level}" not in found[0].split():
+    if prover.returncode or len(found) != 1 or level_of(found[0]) != level:
         stop(f"{product} is not proved for {level}")
     # What an earlier run in this folder had proved is told apart by a word alone. The same sources must give the same text.
     return " ".join(it for it in found[0].split() if it != "incremental=trusted")
+
+
+def level_of(verdict):
+    """The level of which a prover's last line speaks. It does not name the lowest."""
+    return next((it.removeprefix("cpu=") for it in verdict.split() if it.startswith("cpu=")), LEVELS[0])
 
 
 def built():
@@ -71,7 +76,7 @@ def built():
 def link():
     """Links the objects by release/link, on a copy of their folder, and those of the program with the kit's linker."""
     for level in LEVELS:
-        # Two builds in one file must share no name that either could take from the other.
+        # The builds in one file must share no name that one could take from another.
         names = run("nm", "--extern-only", "--defined-only", "--format=just-symbols", OBJECTS / level / "b3sum.o")
         if names != "main":
             stop(f"b3sum.o for {level} defines more than main: {names}")
@@ -81,5 +86,5 @@ def link():
     shutil.copytree(OBJECTS, LINKED)
     run("./link", cwd=LINKED)
     run(KIT / "bin/rattle-link", "--target", "x86_64-unknown-linux-gnu", "--toolchain", KIT / "toolchain", "-o", DYNAMIC,
-        *(LINKED / it for it in ("choose.o", "b3sum_v3.o", "b3sum_v2.o")), *OF_KIT)
+        *(LINKED / f"{it}.o" for it in ("choose", *reversed(LEVELS))), *OF_KIT)
     run("strip", DYNAMIC)

@@ -8,16 +8,17 @@ import tarfile
 from dataclasses import dataclass
 from pathlib import Path
 
-from dist_common import DEBIAN_LIB, LEVELS, ROOT, files_of, program_version, sha256
+from dist_build import level_of
+from dist_common import DEBIAN_LIB, LEVELS, ROOT, STATIC_LEVEL, files_of, program_version, sha256
 from dist_texts import GATE_NOT_RUN, GATE_PASSED
 
 ABC = "6437b3ac38465133ffb63b75273a8db548c558465d79db03fd359c6cd5bd9d85"
 # The C program of docs/EMBEDDING.md.
 CALLER = re.search(r"```c\n(.*?)```", (ROOT / "docs/EMBEDDING.md").read_text(), re.DOTALL)[1]
 HAS_AVX2 = " avx2 " in Path("/proc/cpuinfo").read_text()
-NO_AVX2 = {"GLIBC_TUNABLES": "glibc.cpu.hwcaps=-AVX2"}
-# What glibc can hide of what x86-64-v3 has above x86-64-v2; and nothing.
-OF_V3 = ["", "AVX", "AVX2", "BMI1", "BMI2", "FMA", "LZCNT", "MOVBE"]
+# What glibc can hide of what each level has above the one before.
+ABOVE = {"x86-64-v2": ["POPCNT", "SSE4_1", "SSE4_2"],
+         "x86-64-v3": ["AVX", "AVX2", "BMI1", "BMI2", "FMA", "LZCNT", "MOVBE"]}
 # As root of a name space of its own, where this is not root.
 AS_ROOT = [] if os.geteuid() == 0 else ["unshare", "--map-root-user"]
 PACKAGES = ["b3sum-proved", "libb3-0", "libb3-dev"]
@@ -162,8 +163,8 @@ def statement(checks, release):
     checks.say(f"the statement is of commit {commit}, and says of the gate: {said.get('gate')}")
     for level in LEVELS:
         for product in ("b3sum.o", "libb3.a"):
-            line = rf"^  {level}/{product}: logic=proved .*\bcpu={level}\b"
-            checks.expect(f"verdict of {level}/{product}", re.search(line, text, re.MULTILINE), text)
+            found = re.search(rf"^  {level}/{product}: (logic=proved .*)", text, re.MULTILINE)
+            checks.expect(f"verdict of {level}/{product}", found and level_of(found[1]) == level, text)
 
 
 def objects(checks, release):
@@ -183,8 +184,8 @@ def objects(checks, release):
     archive, packages = release.prefix / "lib", release.installed / "usr" / DEBIAN_LIB
     rows = [("b3sum", release.prefix / "bin/b3sum")]
     for lib in archive, packages:
-        rows += [("x86-64-v2/libb3.a", lib / "libb3.a"), ("x86-64-v2/libb3.so.0", lib / "libb3.so.0"),
-                 ("x86-64-v3/libb3.so.0", lib / "glibc-hwcaps/x86-64-v3/libb3.so.0")]
+        rows += [(f"{STATIC_LEVEL}/libb3.a", lib / "libb3.a")]
+        rows += [(f"{level}/libb3.so.0", lib / place_of(level) / "libb3.so.0") for level in LEVELS]
     for made, path in rows:
         is_same = path.exists() and sha256(folder / made) == sha256(path)
         what = f"linked again: {made} of the {'packages' if packages in path.parents else 'archive'}"
@@ -220,30 +221,35 @@ def program(checks, name, path):
     said = run(path, "--version")
     checks.expect(f"{name}: version", said == (0, f"b3sum {program_version()}\n"), said)
     right = (0, f"{ABC}  -\n")
-    for place, environment in (("here", {}), ("without AVX2", NO_AVX2)):
-        said = run(path, text="abc", **environment)
-        checks.expect(f"{name}: digest {place}", said == right, said)
+    for hidden in ("", "AVX2", "AVX2,SSE4_2"):
+        said = run(path, text="abc", **without(hidden))
+        checks.expect(f"{name}: digest, hidden: {hidden or 'nothing'}", said == right, said)
     levels(checks, name, path)
     if checks.has("qemu-x86_64"):
-        # With AVX2 or without, each of which stops at an instruction that it lacks.
-        for processor in ("Nehalem", "Haswell", "max"):
+        # Of each level one that stops at an instruction which it lacks.
+        for processor in ("qemu64", "Nehalem", "Haswell", "max"):
             # It warns of what it cannot emulate.
             status, said = run("qemu-x86_64", "-cpu", processor, path, text="abc")
             checks.expect(f"{name}: digest on {processor}", (status, said[-len(right[1]):]) == right, said)
-        status, said = run("qemu-x86_64", "-cpu", "qemu64", path, text="abc")
-        checks.expect(f"{name}: below x86-64-v2", status == 127 and "lacks a feature of x86-64-v2" in said, said)
 
 
 def levels(checks, name, path):
-    """Which build is chosen where nothing of x86-64-v3 is hidden, and where a part of it is. SSE 4.2, which both builds need,
-    is hidden besides: so the one that is chosen says which it is."""
+    """Which build is chosen where nothing is hidden of what the levels have, and where one feature is. SSSE3, at which the
+    choice does not look, is hidden besides: so one that is chosen, and needs it, says which it is."""
     if not HAS_AVX2:
         checks.leave_out("this processor has no AVX2")
-    for feature in OF_V3 if HAS_AVX2 else []:
-        level = LEVELS[0] if feature else LEVELS[1]
-        said = run(path, GLIBC_TUNABLES=f"glibc.cpu.hwcaps={f'-{feature},' if feature else ''}-SSE4_2")
-        is_right = said[0] == 127 and f"lacks a feature of {level}," in said[1]
-        checks.expect(f"{name}: which build, hidden: {feature or 'nothing'}", is_right, said)
+        return
+    lowest, middle, highest = LEVELS
+    chosen = [("", highest), *((it, middle) for it in ABOVE[highest]), *((f"AVX2,{it}", lowest) for it in ABOVE[middle])]
+    for hidden, level in chosen:
+        said = run(path, text="abc", **without(f"{hidden},SSSE3"))
+        is_right = said == (0, f"{ABC}  -\n") if level == lowest else said[0] == 127 and f"lacks a feature of {level}," in said[1]
+        checks.expect(f"{name}: which build, hidden: {hidden or 'nothing'}", is_right, said)
+
+
+def without(hidden):
+    """What hides features, whose names are between commas, from a program that asks glibc."""
+    return {"GLIBC_TUNABLES": f"glibc.cpu.hwcaps={','.join(f'-{it}' for it in hidden.split(',') if it)}"}
 
 
 def alone(checks, path):
@@ -282,15 +288,22 @@ def library(checks, name, prefix, lib, work, environment):
         levels_of_library(checks, name, prefix / lib, shared, path)
 
 
+def place_of(level):
+    """Where the loader looks for a library of a level, below the folder of libraries."""
+    return "" if level == LEVELS[0] else f"glibc-hwcaps/{level}"
+
+
 def levels_of_library(checks, name, lib, shared, path):
     if checks.has("qemu-x86_64"):
-        said = run("qemu-x86_64", "-cpu", "Nehalem", shared, **path)
-        checks.expect(f"{name}: the library on Nehalem", said == (0, f"{ABC}\n"), said)
+        for processor in ("qemu64", "Nehalem"):
+            said = run("qemu-x86_64", "-cpu", processor, shared, **path)
+            checks.expect(f"{name}: the library on {processor}", said == (0, f"{ABC}\n"), said)
     loader = re.search(r"Requesting program interpreter: ([^]]+)", run("readelf", "--program-headers", shared)[1])[1]
-    for level, place in zip(LEVELS, ("", "glibc-hwcaps/x86-64-v3/")):
-        said = run("readelf", "--notes", lib / place / "libb3.so.0")[1]
-        checks.expect(f"{name}: the library on {level}", re.search(rf"ISA needed: .*\b{level}$", said, re.MULTILINE), said)
-        wanted = lib / (place if HAS_AVX2 else "") / "libb3.so.0"
+    for level in LEVELS:
+        said = run("readelf", "--notes", lib / place_of(level) / "libb3.so.0")[1]
+        needed = re.search(r"ISA needed: .*\b(x86-64-v\d)$", said, re.MULTILINE)
+        checks.expect(f"{name}: the library on {level}", (needed[1] if needed else LEVELS[0]) == level, said)
+        wanted = lib / (place_of(level) if HAS_AVX2 else "") / "libb3.so.0"
         said = run(loader, "--glibc-hwcaps-mask", level, "--list", shared, **path)[1]
         checks.expect(f"{name}: the library for {level}", f"=> {wanted} " in said, said)
         said = run(loader, "--glibc-hwcaps-mask", level, shared, **path)

@@ -12,7 +12,9 @@ from crates import ROOT
 
 # What is published, and what it is made of.
 DIST, WORK = ROOT / "dist", ROOT / "out/release"
-LEVELS = ["x86-64-v2", "x86-64-v3"]
+LEVELS = ["x86-64", "x86-64-v2", "x86-64-v3"]
+# That of the static library, which has one build.
+STATIC_LEVEL = LEVELS[1]
 # Where Debian has the libraries for this kind of processor, below /usr.
 DEBIAN_LIB = "lib/x86_64-linux-gnu"
 # All that commands see of the environment, since much else could change what they make.

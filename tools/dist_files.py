@@ -8,7 +8,8 @@ from datetime import datetime, timezone
 from email.utils import format_datetime
 
 from dist_build import DYNAMIC, LINKED, OBJECTS, STATIC
-from dist_common import DEBIAN_LIB, LEVELS, ROOT, WORK, empty, files_of, filled, program_version, put, run, write
+from dist_common import (DEBIAN_LIB, LEVELS, ROOT, STATIC_LEVEL, WORK, empty, files_of, filled, program_version, put, run,
+                         write)
 from dist_texts import copyright_text
 
 # Who answers for the Debian packages.
@@ -21,16 +22,16 @@ Replaces: b3sum
 Description: BLAKE3 checksums, by a program that is proved
  Writes BLAKE3 checksums of files, and checks them, as sha256sum does for
  SHA-256. Every step from the bytes that are read to the line that is printed
- is proved. It needs a processor with SSE 4.2 (x86-64-v2), as most since 2009
- have, and uses AVX2 where that is there.
+ is proved. It runs on every x86-64 processor, and uses SSE 4.2 and AVX2 where
+ they are there.
 """
 LIBRARY = """Section: libs
 Multi-Arch: same
 Depends: libc6 (>= {glibc})
 Description: BLAKE3 hashes, by a C library whose code is proved
  The library hashes by the calls of the BLAKE3 project's blake3.h. It allocates
- no memory and starts no thread. It needs a processor with SSE 4.2
- (x86-64-v2), as most since 2009 have, and uses AVX2 where that is there.
+ no memory and starts no thread. It runs on every x86-64 processor, and uses
+ SSE 4.2 and AVX2 where they are there.
 """
 DEVELOPMENT = """Section: libdevel
 Depends: libb3-0 (= {version})
@@ -101,11 +102,11 @@ def shared_library(lib):
 
 
 def development_files(root, lib, prefix):
-    put(OBJECTS / LEVELS[0] / "libb3.a", root / lib / "libb3.a")
+    put(OBJECTS / STATIC_LEVEL / "libb3.a", root / lib / "libb3.a")
     (root / lib / "libb3.so").symlink_to("libb3.so.0")
     put(ROOT / "include/blake3.h", root / "include/b3/blake3.h")
     write(root / lib / "pkgconfig/b3.pc", filled(ROOT / "b3.pc.in", PREFIX=prefix, LIBDIR="${prefix}/" + lib,
-                                                 CPU=LEVELS[0], VERSION=program_version()))
+                                                 CPU=STATIC_LEVEL, VERSION=program_version()))
 
 
 def glibc(path):

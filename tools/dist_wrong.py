@@ -5,11 +5,13 @@ from contextlib import contextmanager
 
 from dist_common import DEBIAN_LIB, put, run
 
-CHOICE = "return is_v3 ? b3sum_v3(count, words) : b3sum_v2(count, words);"
-ALWAYS_V3, ALWAYS_V2 = "return b3sum_v3(count, words);", "return b3sum_v2(count, words);"
-BY_AVX2 = "return CPU_FEATURE_ACTIVE(AVX2) ? b3sum_v3(count, words) : b3sum_v2(count, words);"
-WRONG_WAY = "return is_v3 ? b3sum_v2(count, words) : b3sum_v3(count, words);"
-OF_V2, OF_V3 = "libb3.so.0", "glibc-hwcaps/x86-64-v3/libb3.so.0"
+# What picks a build, and wrong words in its place.
+CHOICE = "is_v3 ? b3sum_x86_64_v3(count, words) : is_v2 ? b3sum_x86_64_v2(count, words) : b3sum_x86_64(count, words)"
+ALWAYS, ALWAYS_V2, ALWAYS_V3 = (f"b3sum_x86_64{it}(count, words)" for it in ("", "_v2", "_v3"))
+WRONG_WAY = f"is_v3 ? {ALWAYS_V2} : is_v2 ? {ALWAYS_V3} : {ALWAYS}"
+BY_AVX2 = CHOICE.replace("is_v3", "CPU_FEATURE_ACTIVE(AVX2)")
+BY_SSE4_2 = CHOICE.replace("is_v2", "CPU_FEATURE_ACTIVE(SSE4_2)")
+OF_ALL, OF_V2, OF_V3 = "libb3.so.0", "glibc-hwcaps/x86-64-v2/libb3.so.0", "glibc-hwcaps/x86-64-v3/libb3.so.0"
 
 
 class Copy:
@@ -91,7 +93,15 @@ def library_in_package(it, spoil):
         spoil(root / "usr" / DEBIAN_LIB)
 
 
-def of_v3_for_all(lib):
+def of_v2_for_all(lib):
+    put(lib / OF_V2, lib / OF_ALL)
+
+
+def without_v2(lib):
+    (lib / OF_V2).unlink()
+
+
+def of_v3_for_v2(lib):
     put(lib / OF_V3, lib / OF_V2)
 
 
@@ -126,21 +136,27 @@ def another_static_library(it):
 
 # A wrong release, the test that is to find it out, and what makes it.
 WRONG = [
-    ("the archive: always v3", "the archive's program: digest without AVX2", lambda it: chosen(it, ALWAYS_V3)),
-    ("the archive: always v2", "the archive's program: which build, hidden: nothing", lambda it: chosen(it, ALWAYS_V2)),
-    ("the archive: the wrong way round", "the archive's program: digest without AVX2",
+    ("the archive: always v3", "the archive's program: digest, hidden: AVX2", lambda it: chosen(it, ALWAYS_V3)),
+    ("the archive: always v2", "the archive's program: digest, hidden: AVX2,SSE4_2", lambda it: chosen(it, ALWAYS_V2)),
+    ("the archive: always the lowest level", "the archive's program: which build, hidden: nothing",
+     lambda it: chosen(it, ALWAYS)),
+    ("the archive: the wrong way round", "the archive's program: digest, hidden: AVX2",
      lambda it: chosen(it, WRONG_WAY)),
     ("the archive: by one part of v3 alone", "the archive's program: which build, hidden: MOVBE",
      lambda it: chosen(it, BY_AVX2)),
-    ("the package: always v3", "the package's program: digest without AVX2", lambda it: chosen_in_package(it, ALWAYS_V3)),
-    ("the package: always v2", "the package's program: which build, hidden: nothing",
-     lambda it: chosen_in_package(it, ALWAYS_V2)),
+    ("the archive: by one part of v2 alone", "the archive's program: which build, hidden: AVX2,POPCNT",
+     lambda it: chosen(it, BY_SSE4_2)),
+    ("the package: always v3", "the package's program: digest, hidden: AVX2", lambda it: chosen_in_package(it, ALWAYS_V3)),
+    ("the package: always the lowest level", "the package's program: which build, hidden: nothing",
+     lambda it: chosen_in_package(it, ALWAYS)),
     ("a dynamic program in the archive", "it links nothing", dynamic),
-    ("the archive: the library of v3 for all", "the archive: the library on x86-64-v2",
-     lambda it: library(it, of_v3_for_all)),
+    ("the archive: the library of v2 for all", "the archive: the library on x86-64", lambda it: library(it, of_v2_for_all)),
+    ("the archive: no library of v2", "the archive: the library for x86-64-v2", lambda it: library(it, without_v2)),
+    ("the archive: the library of v3 for v2", "the archive: the library on x86-64-v2",
+     lambda it: library(it, of_v3_for_v2)),
     ("the archive: no library of v3", "the archive: the library for x86-64-v3", lambda it: library(it, without_v3)),
-    ("the package: the library of v3 for all", "the packages: the library on x86-64-v2",
-     lambda it: library_in_package(it, of_v3_for_all)),
+    ("the package: the library of v2 for all", "the packages: the library on x86-64",
+     lambda it: library_in_package(it, of_v2_for_all)),
     ("the package: no library of v3", "the packages: the library for x86-64-v3",
      lambda it: library_in_package(it, without_v3)),
     ("a byte more in a package", "SHA256SUMS", lambda it: longer(it.one("libb3-dev_*.deb"))),
