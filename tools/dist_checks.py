@@ -192,6 +192,19 @@ def objects(checks, release):
         checks.expect(what, is_same, "with another compiler, binutils or C library it may differ")
 
 
+def stack(checks, release):
+    """The program turns the main thread's stack: seen where the build for AVX2 is linked alone, with its names."""
+    if not HAS_AVX2 or not all([checks.has("cc"), checks.has("gdb"), checks.has("objdump")]):
+        return
+    folder, build = release.work / "objects", "b3sum_x86_64_v3"
+    others = [f"-Wl,--defsym,{build.replace('_v3', it)}={build}" for it in ("", "_v2")]
+    parts = [folder / it for it in ("choose.o", f"{LEVELS[-1]}.o", "libos_c.a", "liblibc_c.a")]
+    said = run("cc", "-static-pie", *others, *parts, "-o", folder / "named")
+    checks.expect("the build for AVX2 is linked alone", said[0] == 0, said)
+    said = run(ROOT / "tools/stack-places", "--main", folder / "named")
+    checks.expect("where vectors lie on the stack", said[0] == 0, said[1])
+
+
 def texts(checks, release):
     for root, zsh in ((release.prefix, "site-functions"), (release.installed / "usr", "vendor-completions")):
         path = root / "share/bash-completion/completions/b3sum"

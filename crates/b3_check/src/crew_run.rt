@@ -90,21 +90,21 @@ fn help_with<R: Wait, S: Shelf, I: AnyItem, L: RunInput>(
     }
 }
 
-// The main thread finds what is to be said of one item, and answers whether any may be left.
+// The main thread finds what is to be said of one item, and answers how many bytes it has hashed since the run began; nothing
+// where no item is left.
 fn look<R: Wait, S: Shelf, I: AnyItem, L: RunInput>(
     site: &Site<'_, R, S, I, L>,
     name_hasher: &mut NameHasher,
-) -> bool {
-    let Some(batch) = site.crew.batch(site.rt) else {
-        return false;
-    };
+) -> Option<u64> {
+    let batch = site.crew.batch(site.rt)?;
     if let Some(entry) = batch.take() {
         name_hasher.find(site, &**entry);
     }
-    true
+    Some(name_hasher.hashed())
 }
 
-// It does so for so many items, until so many bytes are hashed, and answers whether there was any.
+// It does so for so many items, until so many bytes are hashed, and answers whether there was any. The frame of this is 16 bytes
+// more than a multiple of 32: so the vectors of the code on lanes lie, in the main thread, as where it hashes in turn.
 fn look_at_some<R: Wait, S: Shelf, I: AnyItem, L: RunInput>(
     site: &Site<'_, R, S, I, L>,
     name_hasher: &mut NameHasher,
@@ -113,10 +113,10 @@ fn look_at_some<R: Wait, S: Shelf, I: AnyItem, L: RunInput>(
 ) -> bool {
     let before = name_hasher.hashed();
     for number in 0..count {
-        if !look(site, name_hasher) {
+        let Some(hashed) = look(site, name_hasher) else {
             return number > 0;
-        }
-        if name_hasher.hashed().saturating_sub(before) >= len {
+        };
+        if hashed.saturating_sub(before) >= len {
             return true;
         }
     }
