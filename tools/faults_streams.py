@@ -3,6 +3,7 @@
 import os
 import re
 import select
+import socket
 import subprocess
 import threading
 import time
@@ -10,7 +11,7 @@ from contextlib import contextmanager, suppress
 from pathlib import Path
 
 from blake3 import digest
-from faults_rows import CANNOT_WRITE, KEY, KEYED_Z0, PATTERN, Z0, Z1, Z1025, closing
+from faults_rows import CANNOT_WRITE, KEY, KEYED_Z0, PATTERN, SECONDS, Z0, Z1, Z1025, closing
 
 # A plain file that reports no length, and does not end.
 KERNEL_LOG = "/proc/kmsg"
@@ -208,3 +209,20 @@ def writes_of_lines(faults):
         run.kill()
         run.wait()
         os.close(reader)
+
+
+def writes_of_one_thread(faults):
+    """One thread writes the line of a longer file before it reads the next, and those of short ones together. Each write to
+    a socket of this kind is a message."""
+    for length, due in ((1 << 20, 12), (1 << 10, 1)):
+        content = (2 * PATTERN)[:length]
+        Path("same").write_bytes(content)
+        reader, writer = socket.socketpair(socket.AF_UNIX, socket.SOCK_SEQPACKET)
+        with reader, writer:
+            words = ["--num-threads", "1", *["same"] * 12]
+            subprocess.run([faults.program, *words], stdout=writer, timeout=SECONDS, check=False)
+            writer.close()
+            writes = list(iter(lambda: reader.recv(1 << 16), b""))
+        lines = f"{digest(content)}  same\n".encode() * 12
+        got = (b"".join(writes), None, len(writes))
+        faults.compare(f"12 files of {length} bytes, by one thread: writes", got, (lines, "", due))
