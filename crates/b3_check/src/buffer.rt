@@ -1,11 +1,14 @@
 //! The memory that files are read into.
 
-ghost use Rattle.std.specs.Prelude.{◌≡◌, IfOk, length};
+ghost use Rattle.std.specs.Prelude.{◌≡◌, ◌<◌, ◌≤◌, IfOk, length};
 
 use std::alloc::{AllocError, Global};
 
-/// How many bytes are read at a time of a file that is read in order.
+/// How many bytes are read at a time of a file that is read in order, at most.
 pub const READ_LEN: usize = 65_536;
+
+/// How many they are at least, so that a file which tells too short a length takes no read for each few bytes.
+const LEAST_READ_LEN: u64 = 4_096;
 
 /// Memory for reads: for one in order, and for more where more is lent.
 #[derive(Drop)]
@@ -19,6 +22,21 @@ impl Buffer {
         Ok(Buffer {
             bytes: Vec::with_capacity(alloc, READ_LEN)?,
         })
+    }
+
+    /// Lends the bytes for reads in order of a file that tells this length, or 0 where it tells none: one more than it
+    /// has, which shows its end. So a short file touches no more memory than it needs.
+    pub fn for_reads(&mut self, len_hint: u64) -> Result<&mut [u8], AllocError>
+        ensures some { IfOk result (λ front. 0 < length front.now) }
+        ensures most { IfOk result (λ front. length front.now ≤ READ_LEN) }
+    {
+        let len = match len_hint {
+            0 => READ_LEN,
+            told => told
+                .saturating_add(1)
+                .clamp(LEAST_READ_LEN, READ_LEN as u64) as usize,
+        };
+        self.front(len)
     }
 
     /// Lends the first `len` bytes, whatever they are.

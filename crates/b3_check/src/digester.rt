@@ -7,7 +7,7 @@ ghost use Rattle.b3_check.specs.Reading.{IsDigestOf, IsFaultOfRest, IsOutputOf, 
 ghost use Rattle.b3_check.specs.Scripts.Kind.{Hashed};
 
 use crate::at_offsets::hash_at_offsets;
-use crate::buffer::{Buffer, READ_LEN};
+use crate::buffer::Buffer;
 use crate::fault::RunFault;
 use crate::in_order::hash_in_order;
 use crate::options::Limits;
@@ -116,7 +116,7 @@ impl Digester {
         if let Some(output) = hash_at_offsets(pool, &*shelf, &mode, limits, &mut self.buffer) {
             return Ok(Some(output));
         }
-        let buffer = self.buffer.front(READ_LEN)?;
+        let buffer = self.buffer.for_reads(shelf.len_hint())?;
         hash_in_order(shelf, &mode, limits.turns, buffer)
     }
 

@@ -7,7 +7,6 @@ ghost use Rattle.b3_check.specs.Scripts.Kind.{Hashed};
 ghost use Rattle.b3_check.specs.declared.buffer.TheConstants.{READ_LEN};
 ghost use Rattle.b3_check.specs.declared.fault.RunFault.TheVariants.{EndlessInput};
 
-use crate::buffer::READ_LEN;
 use crate::fault::RunFault;
 use crate::shelf::{CannotRead, Shelf};
 use b3_core::Mode;
@@ -72,15 +71,16 @@ fn read_after<S: Shelf>(
     Ok(count)
 }
 
-/// The output of what is left of the file, which goes through a buffer of one read. Nothing where it cannot be read. A
-/// run fault comes where the file has not ended after so many reads.
+/// The output of what is left of the file, which goes through the buffer. Nothing where it cannot be read. A run fault
+/// comes where the file has not ended after so many reads.
 pub fn hash_in_order<S: Shelf>(
     shelf: &mut S,
     mode: &Mode,
     turns: u64,
     buffer: &mut [u8],
 ) -> Result<Option<Xof>, RunFault>
-    requires buffer { length buffer.old ≡ READ_LEN }
+    requires buffer { 0 < length buffer.old }
+    requires most { length buffer.old ≤ READ_LEN }
     requires some_turns { 0 < turns }
     requires turns { turns ≤ 2 ^ 40 }
     requires count { S.failures shelf.old < 2 ^ 64 - 1 }
@@ -99,7 +99,7 @@ pub fn hash_in_order<S: Shelf>(
             return Ok(None);
         };
         hasher.update(&buffer[..count]).unwrap();
-        if count < READ_LEN {
+        if count < buffer.len() {
             return Ok(Some(hasher.finish()));
         }
     }

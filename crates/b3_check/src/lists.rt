@@ -7,7 +7,7 @@ ghost use Rattle.b3_check.specs.Scripts.{AgreesWith};
 ghost use Rattle.b3_check.specs.Scripts.Kind.{Listed};
 ghost use Rattle.b3_check.specs.declared.shelf.NoContent.TheVariants.{CannotRead};
 
-use crate::buffer::{Buffer, READ_LEN};
+use crate::buffer::Buffer;
 use crate::fault::RunFault;
 use crate::in_order::fill;
 use crate::options::Limits;
@@ -57,10 +57,10 @@ impl ListReader {
         ensures still_sure { S.is_sure shelf.new ≡ S.is_sure shelf.old }
     {
         self.text.clear();
-        let buffer = self.buffer.front(READ_LEN)?;
         if let Err(why) = shelf.begin(name) {
             return Ok(Err(why));
         }
+        let buffer = self.buffer.for_reads(shelf.len_hint())?;
         read_text(shelf, buffer, &mut self.text, limits)
     }
 }

@@ -19,6 +19,9 @@ const KEPT: usize = 262_144 + 250;
 
 const MEBIBYTE: u64 = 1 << 20;
 
+// Lengths on both sides of those from which a file has a longer buffer.
+const SHORT_HINTS: [u64; 7] = [0, 1, 4_095, 4_096, 65_534, 65_535, 65_536];
+
 // What is said of a file that fails once and is read after that.
 const COMPLAINT: &[u8] = b"b3sum: g196608: cannot read\n";
 
@@ -228,6 +231,38 @@ fn a_length_that_is_not_so(rt: HostRuntime) -> Result<(), Fail> {
     let len = MEBIBYTE + 1;
     for hint in [0, len / 2, len - 1, len + 1, 5 * len, u64::MAX] {
         assert_refused(&rt, rt.alloc(), &kept, Some(hint), u64::MAX, None)?;
+    }
+    for hint in SHORT_HINTS {
+        assert_refused(&rt, rt.alloc(), &kept, Some(hint), u64::MAX, None)?;
+    }
+    Ok(())
+}
+
+// A list is read to its end as well, whatever it says of its length: here of 1,000 lines with 72,000 bytes.
+#[test]
+fn a_length_of_a_list_that_is_not_so(rt: HostRuntime) -> Result<(), Fail> {
+    let alloc = rt.alloc();
+    let kept = pattern(alloc, KEPT)?;
+    let line = line_of("g1024");
+    let mut list = Vec::new(alloc);
+    let mut verdicts = Vec::new(alloc);
+    for _ in 0..1_000 {
+        list.extend_from_slice(line.as_bytes())?;
+        list.push(b'\n')?;
+        verdicts.extend_from_slice(b"g1024: OK\n")?;
+    }
+    for hint in SHORT_HINTS {
+        let mut shelf = LetteredFiles::new(alloc, &kept, list.as_slice(), Access::AtPlaces);
+        shelf.list_hint = hint;
+        let ended = check(
+            &rt,
+            alloc,
+            &mut shelf,
+            &["l"],
+            &check_options(false, 100_000),
+        )?;
+        let all = Ok(lines_tally(1_000, 0, 0, 0));
+        ended.assert(&rt, line, all, verdicts.as_slice(), b"");
     }
     Ok(())
 }

@@ -32,6 +32,8 @@ pub struct LetteredFiles<'a> {
     pub most: usize,
     /// How long a file says that it is, where that is not so.
     pub hint: Option<u64>,
+    /// How long the list says that it is, or 0.
+    pub list_hint: u64,
     /// How many calls for bytes at a place come before one that is at fault, and how many bytes that one gives, if any.
     pub calls_before: u64,
     pub given: Option<usize>,
@@ -62,6 +64,7 @@ impl<'a> LetteredFiles<'a> {
             access,
             most: usize::MAX,
             hint: None,
+            list_hint: 0,
             calls_before: u64::MAX,
             given: None,
             readers: Rendezvous::new(0),
@@ -217,7 +220,8 @@ impl Shelf for LetteredFiles<'_> {
 
     fn len_hint(&self) -> u64 {
         match self.hint {
-            _ if self.is_list || self.access == Access::InOrder => 0,
+            _ if self.is_list => self.list_hint,
+            _ if self.access == Access::InOrder => 0,
             Some(hint) => hint,
             None => self.len,
         }
