@@ -13,7 +13,7 @@ KIT = Path(shutil.which("rt") or "rt").resolve().parent.parent
 OF_KIT = [KIT / "c/libos_c.a", KIT / "c/liblibc_c.a"]
 # The objects with what links them, and a copy with what they are linked to.
 OBJECTS, LINKED = WORK / "objects", WORK / "linked"
-STATIC, DYNAMIC = LINKED / "b3sum", WORK / "b3sum.dynamic"
+STATIC, DYNAMIC = LINKED / "b3sum", LINKED / "b3sum.dynamic"
 # The programs that are used, and what each is a part of.
 TOOLS = {"rt": "the Rattle toolchain", "git": "git", "make": "GNU make", "cc": "gcc", "objcopy": "binutils",
          "tar": "GNU tar", "gzip": "gzip", "dpkg-deb": "dpkg"}
@@ -74,7 +74,7 @@ def built():
 
 
 def link():
-    """Links the objects by release/link, on a copy of their folder, and those of the program with the kit's linker."""
+    """Links the objects by release/link, on a copy of their folder."""
     for level in LEVELS:
         # The builds in one file must share no name that one could take from another.
         names = run("nm", "--extern-only", "--defined-only", "--format=just-symbols", OBJECTS / level / "b3sum.o")
@@ -85,6 +85,3 @@ def link():
         put(path, OBJECTS / path.name)
     shutil.copytree(OBJECTS, LINKED)
     run("./link", cwd=LINKED)
-    run(KIT / "bin/rattle-link", "--target", "x86_64-unknown-linux-gnu", "--toolchain", KIT / "toolchain", "-o", DYNAMIC,
-        *(LINKED / f"{it}.o" for it in ("choose", *reversed(LEVELS))), *OF_KIT)
-    run("strip", DYNAMIC)

@@ -168,8 +168,8 @@ def statement(checks, release):
 
 
 def objects(checks, release):
-    """The objects are those of the statement. They link to the archive's program and to the libraries, in both of which the
-    static one is an object."""
+    """The objects are those of the statement. They link to both programs and to the libraries, in both of which the static
+    one is an object."""
     folder = release.work / "objects"
     with tarfile.open(release.archive.with_name(release.archive.name.replace(".tar.gz", "-objects.tar.gz"))) as archive:
         archive.extractall(release.work)
@@ -182,13 +182,13 @@ def objects(checks, release):
     said = run("./link", cwd=folder)
     checks.expect("the objects are linked again", said == (0, ""), said)
     archive, packages = release.prefix / "lib", release.installed / "usr" / DEBIAN_LIB
-    rows = [("b3sum", release.prefix / "bin/b3sum")]
+    rows = [("b3sum", release.prefix / "bin/b3sum"), ("b3sum.dynamic", release.installed / "usr/bin/b3sum")]
     for lib in archive, packages:
         rows += [(f"{STATIC_LEVEL}/libb3.a", lib / "libb3.a")]
         rows += [(f"{level}/libb3.so.0", lib / place_of(level) / "libb3.so.0") for level in LEVELS]
     for made, path in rows:
         is_same = path.exists() and sha256(folder / made) == sha256(path)
-        what = f"linked again: {made} of the {'packages' if packages in path.parents else 'archive'}"
+        what = f"linked again: {made} of the {'packages' if release.installed in path.parents else 'archive'}"
         checks.expect(what, is_same, "with another compiler, binutils or C library it may differ")
 
 

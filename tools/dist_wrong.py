@@ -52,13 +52,13 @@ class Copy:
             (self.release / sums).write_text(run(command, *names, cwd=self.release) + "\n")
 
     def linked(self, choice):
-        """The program, linked with another choice."""
+        """The objects, linked with another choice."""
         objects = self.work / "linked"
         objects.mkdir()
         run("tar", "-xzf", self.one("*-objects.tar.gz"), "--strip-components=1", "-C", objects)
         change(objects / "choose.c", CHOICE, choice)
         run("./link", cwd=objects)
-        return objects / "b3sum"
+        return objects
 
 
 def change(path, old, new):
@@ -70,12 +70,12 @@ def change(path, old, new):
 
 def chosen(it, choice):
     with it.archive() as root:
-        put(it.linked(choice), root / "bin/b3sum", 0o755)
+        put(it.linked(choice) / "b3sum", root / "bin/b3sum", 0o755)
 
 
 def chosen_in_package(it, choice):
     with it.package("b3sum-proved") as root:
-        put(it.linked(choice), root / "usr/bin/b3sum", 0o755)
+        put(it.linked(choice) / "b3sum.dynamic", root / "usr/bin/b3sum", 0o755)
 
 
 def dynamic(it):
@@ -129,6 +129,11 @@ def another_object(it):
         longer(root / "x86-64-v2/b3sum.o")
 
 
+def another_program(it):
+    with it.package("b3sum-proved") as root:
+        longer(root / "usr/bin/b3sum")
+
+
 def another_static_library(it):
     with it.package("libb3-dev") as root:
         longer(root / "usr" / DEBIAN_LIB / "libb3.a")
@@ -173,5 +178,6 @@ WRONG = [
     ("a statement without the gate", "the statement speaks of the gate",
      lambda it: changed(it, "share/doc/b3sum/PROOF", "\ngate ", "\nnothing ")),
     ("another object", "sum of x86-64-v2/b3sum.o", another_object),
+    ("another program in a package", "linked again: b3sum.dynamic of the packages", another_program),
     ("another static library in a package", "linked again: x86-64-v2/libb3.a of the packages", another_static_library),
 ]
