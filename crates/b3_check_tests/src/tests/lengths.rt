@@ -19,8 +19,17 @@ const KEPT: usize = 262_144 + 250;
 
 const MEBIBYTE: u64 = 1 << 20;
 
-// Lengths on both sides of those from which a file has a longer buffer.
-const SHORT_HINTS: [u64; 7] = [0, 1, 4_095, 4_096, 65_534, 65_535, 65_536];
+// What a file tells of its length, or 0, and for how many bytes a read in order of it asks.
+const ASKED: [(u64, usize); 8] = [
+    (0, 65_536),
+    (1, 4_096),
+    (4_095, 4_096),
+    (4_096, 4_097),
+    (65_534, 65_535),
+    (65_535, 65_536),
+    (65_536, 65_536),
+    (u64::MAX, 65_536),
+];
 
 // What is said of a file that fails once and is read after that.
 const COMPLAINT: &[u8] = b"b3sum: g196608: cannot read\n";
@@ -229,11 +238,26 @@ fn a_span_that_is_not_given_or_is_short(rt: HostRuntime) -> Result<(), Fail> {
 fn a_length_that_is_not_so(rt: HostRuntime) -> Result<(), Fail> {
     let kept = pattern(rt.alloc(), KEPT)?;
     let len = MEBIBYTE + 1;
-    for hint in [0, len / 2, len - 1, len + 1, 5 * len, u64::MAX] {
+    for hint in [len / 2, len - 1, len + 1, 5 * len] {
         assert_refused(&rt, rt.alloc(), &kept, Some(hint), u64::MAX, None)?;
     }
-    for hint in SHORT_HINTS {
+    for (hint, _) in ASKED {
         assert_refused(&rt, rt.alloc(), &kept, Some(hint), u64::MAX, None)?;
+    }
+    Ok(())
+}
+
+#[test]
+fn a_read_asks_for_as_many_bytes_as_a_file_tells(rt: HostRuntime) -> Result<(), Fail> {
+    let kept = pattern(rt.alloc(), KEPT)?;
+    let line = line_of("g1");
+    let text = format!(in rt.alloc(); "{line}\n")?;
+    for (hint, asked) in ASKED {
+        let mut shelf = LetteredFiles::new(rt.alloc(), &kept, b"", Access::AtPlaces);
+        shelf.hint = Some(hint);
+        let ended = sum(&rt, rt.alloc(), &mut shelf, &["g1"], &by_workers(1, 1_000))?;
+        ended.assert(&rt, line, Ok(tally(1, 0, 0)), text.as_bytes(), b"");
+        assert_eq!(&rt; shelf.asked, asked, "{hint}");
     }
     Ok(())
 }
@@ -251,7 +275,7 @@ fn a_length_of_a_list_that_is_not_so(rt: HostRuntime) -> Result<(), Fail> {
         list.push(b'\n')?;
         verdicts.extend_from_slice(b"g1024: OK\n")?;
     }
-    for hint in SHORT_HINTS {
+    for (hint, _) in ASKED {
         let mut shelf = LetteredFiles::new(alloc, &kept, list.as_slice(), Access::AtPlaces);
         shelf.list_hint = hint;
         let ended = check(

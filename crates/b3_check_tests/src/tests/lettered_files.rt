@@ -34,6 +34,8 @@ pub struct LetteredFiles<'a> {
     pub hint: Option<u64>,
     /// How long the list says that it is, or 0.
     pub list_hint: u64,
+    /// For how many bytes a read asked at most.
+    pub asked: usize,
     /// How many calls for bytes at a place come before one that is at fault, and how many bytes that one gives, if any.
     pub calls_before: u64,
     pub given: Option<usize>,
@@ -65,6 +67,7 @@ impl<'a> LetteredFiles<'a> {
             most: usize::MAX,
             hint: None,
             list_hint: 0,
+            asked: 0,
             calls_before: u64::MAX,
             given: None,
             readers: Rendezvous::new(0),
@@ -165,6 +168,7 @@ impl Shelf for LetteredFiles<'_> {
             return Err(CannotRead);
         }
         self.reads_before -= 1;
+        self.asked = self.asked.max(buffer.len());
         let place = self.place;
         let rest = bytes_from(self.bytes, self.is_list, self.len, place);
         let count = give(rest, self.most, buffer);
