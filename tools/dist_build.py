@@ -3,7 +3,7 @@ makes, and the shared library; and of the objects of all levels one program, lin
 
 import shutil
 import subprocess
-import sys
+from concurrent.futures import ThreadPoolExecutor
 from pathlib import Path
 
 from dist_common import ENVIRONMENT, LEVELS, ROOT, WORK, empty, put, run, stop
@@ -14,6 +14,8 @@ OF_KIT = [KIT / "c/libos_c.a", KIT / "c/liblibc_c.a"]
 # The objects with what links them, and a copy with what they are linked to.
 OBJECTS, LINKED = WORK / "objects", WORK / "linked"
 STATIC, DYNAMIC = LINKED / "b3sum", LINKED / "b3sum.dynamic"
+# What tools/prove makes for each level.
+PRODUCTS = ("b3sum.o", "libb3.a")
 # The programs that are used, and what each is a part of.
 TOOLS = {"rt": "the Rattle toolchain", "git": "git", "make": "GNU make", "cc": "gcc", "objcopy": "binutils",
          "tar": "GNU tar", "gzip": "gzip", "dpkg-deb": "dpkg"}
@@ -38,22 +40,42 @@ def libc():
     return Path(run("cc", "-print-file-name=libc.a"))
 
 
-def proved(product, level):
-    """Proves and compiles a product of tools/prove for a level, and tells how far that is: the prover's last line."""
-    to = OBJECTS / level / product
-    words = [ROOT / "tools/prove", to.relative_to(ROOT), f"--cpu={level}"]
-    print(f"dist: {product} for {level}", flush=True)
+def proved(root, product, level):
+    """Proves and compiles a product for a level in a checkout, and tells how far that is: the prover's last line."""
+    words = [root / "tools/prove", OBJECTS / level / product, f"--cpu={level}"]
     lines = []
     with subprocess.Popen(words, env=ENVIRONMENT, stdin=subprocess.DEVNULL, stdout=subprocess.PIPE, text=True) as prover:
         for line in prover.stdout:
-            sys.stdout.write(line)
-            sys.stdout.flush()
             lines.append(line.strip())
+            print(f"dist: {product} for {level}: {lines[-1]}", flush=True)
     found = [line for line in lines if line.startswith("logic=proved ")]
     if prover.returncode or len(found) != 1 or level_of(found[0]) != level:
         stop(f"{product} is not proved for {level}")
     # What an earlier run in this folder had proved is told apart by a word alone. The same sources must give the same text.
     return " ".join(it for it in found[0].split() if it != "incremental=trusted")
+
+
+def proved_all(level, root=ROOT):
+    """The prover's last lines for what there is for a level, by level and product."""
+    (OBJECTS / level).mkdir(parents=True)
+    return {f"{level}/{product}": proved(root, product, level) for product in PRODUCTS}
+
+
+def proved_beside(level):
+    """The same in a copy of the checkout: rt lets one run work in a crate at a time. The libraries of the copy are proved."""
+    root = WORK / "beside" / level
+    for folder in ("crates", "tools"):
+        shutil.copytree(ROOT / folder, root / folder, ignore=not_needed)
+    for file in ("crates.txt", "HANDLES"):
+        shutil.copy(ROOT / file, root)
+    verdicts = proved_all(level, root)
+    shutil.rmtree(root)
+    return verdicts
+
+
+def not_needed(_, names):
+    """What need not be copied of a folder: wrong bodies, and what was kept to prove a library anew."""
+    return {"must-fail", "incremental"} if "rlib" in names else {"must-fail"}
 
 
 def level_of(verdict):
@@ -64,11 +86,11 @@ def level_of(verdict):
 def built():
     """Builds all, and returns the prover's last lines by level and product."""
     empty(WORK)
-    verdicts = {}
-    for product in ("b3sum.o", "libb3.a"):
-        for level in LEVELS:
-            (OBJECTS / level).mkdir(parents=True, exist_ok=True)
-            verdicts[f"{level}/{product}"] = proved(product, level)
+    first, *others = LEVELS
+    verdicts = proved_all(first)
+    with ThreadPoolExecutor(len(others)) as pool:
+        for more in pool.map(proved_beside, others):
+            verdicts |= more
     link()
     return verdicts
 
