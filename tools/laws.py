@@ -10,18 +10,18 @@ TO_TASK = (*TO_CALL, ("b3_call/src/call.rt", "run_call"), ("b3_program/src/run.r
            ("b3_program/src/run.rt", "run_task"))
 TO_RUN = (*TO_TASK, ("b3_program/src/run.rt", "run_over_files"), ("b3_program/src/jobs.rt", "run_job"),
           ("b3_program/src/jobs.rt", "run_engine"))
-TO_GIVEN = (*TO_TASK, ("b3_program/src/run.rt", "run_over_files"), ("b3_check/src/operands.rt", "Operands::given"))
+TO_GIVEN = (*TO_TASK, ("b3_program/src/run.rt", "run_over_files"), ("b3_io/src/operands.rt", "Operands::given"))
 TO_LIST = (*TO_TASK, ("b3_program/src/lists.rt", "run_in_list"), ("b3_program/src/lists.rt", "run_over"),
-           ("b3_check/src/operands.rt", "Operands::in_list"))
+           ("b3_io/src/operands.rt", "Operands::in_list"))
 TO_SUM = (*TO_RUN, ("b3_check/src/sum.rt", "run_sum"))
 TO_CHECK = (*TO_RUN, ("b3_check/src/check.rt", "run_check"))
-TO_TEXT = (*TO_SUM, ("b3_check/src/sum.rt", "sum_names"), ("b3_check/src/engine.rt", "Engine::run"),
-           ("b3_check/src/engine.rt", "Engine::run_items"), ("b3_check/src/engine.rt", "Engine::run_as"),
-           ("b3_check/src/engine.rt", "Engine::do_in_turn"), ("b3_check/src/engine.rt", "Engine::message_of"),
-           ("b3_check/src/items.rt", "Request::message"), ("b3_check/src/message.rt", "Message::of_name"),
-           ("b3_check/src/message.rt", "digest_text"))
-TO_PLAIN = (*TO_TEXT, ("b3_check/src/message.rt", "plain_line"), ("b3_lines/src/writing.rt", "write_line"))
-TO_TAGGED = (*TO_TEXT, ("b3_check/src/message.rt", "tagged_line"), ("b3_lines/src/tagging.rt", "write_tagged"))
+TO_TEXT = (*TO_SUM, ("b3_check/src/sum.rt", "sum_names"), ("b3_engine/src/engine.rt", "Engine::run"),
+           ("b3_engine/src/engine.rt", "Engine::run_items"), ("b3_engine/src/engine.rt", "Engine::run_as"),
+           ("b3_engine/src/engine.rt", "Engine::do_in_turn"), ("b3_engine/src/engine.rt", "Engine::message_of"),
+           ("b3_io/src/items.rt", "Request::message"), ("b3_io/src/message.rt", "Message::of_name"),
+           ("b3_io/src/message.rt", "digest_text"))
+TO_PLAIN = (*TO_TEXT, ("b3_io/src/message.rt", "plain_line"), ("b3_lines/src/writing.rt", "write_line"))
+TO_TAGGED = (*TO_TEXT, ("b3_io/src/message.rt", "tagged_line"), ("b3_lines/src/tagging.rt", "write_tagged"))
 
 # The traits at which the proof ends: their contracts are assumed of the real disk, so they have to be read.
 ASSUMED = ("Disk", "DiskFile", "Input", "Stream")
@@ -115,8 +115,8 @@ LAWS = (
     Law("Which names these are",
         "The names are those that are given, or those in a list: the pieces of its content that NUL ends, the last "
         "perhaps ended by none.",
-        (Clauses("b3_check/src/operands.rt", "Operands::given"),
-         Clauses("b3_check/src/operands.rt", "Operands::in_list", ("operands",))), (TO_GIVEN, TO_LIST)),
+        (Clauses("b3_io/src/operands.rt", "Operands::given"),
+         Clauses("b3_io/src/operands.rt", "Operands::in_list", ("operands",))), (TO_GIVEN, TO_LIST)),
 )
 
 CONTRACT = Law("The program's contract",

@@ -2,7 +2,7 @@
 
 ghost use Rattle.std.specs.Prelude.{◌≡◌, ◌<◌, ◌≤◌, [], None, false, IsTrue, length};
 ghost use Rattle.b3_hash.specs.Hashers.{StandsFor, mode_of};
-ghost use Rattle.b3_check.specs.Contents.{StandsForContent};
+ghost use Rattle.b3_io.specs.Contents.{StandsForContent};
 
 use crate::names::number_of;
 use crate::supply::part;

@@ -2,8 +2,8 @@
 use Rattle.std.specs.Prelude.{◌≡◌, ◌⊎◌, ℕ, false, List, Option, Result, Ok, Err, String, Vec, map, string_bytes}
 use Rattle.std.specs.declared.io.Error.{Error}
 use Rattle.clap.specs.Walk.{Text}
-use Rattle.b3_check.specs.Contents.{Contents}
-use Rattle.b3_check.specs.Runs.{IoState}
+use Rattle.b3_io.specs.Contents.{Contents}
+use Rattle.b3_io.specs.Runs.{IoState}
 use Rattle.b3_program.specs.Programs.{Ends}
 use Rattle.b3_program.specs.Stops.{EndsBy, IsStopForInput}
 use Rattle.b3_program.specs.declared.stop.Stop.{Stop}

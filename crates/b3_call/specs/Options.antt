@@ -6,7 +6,7 @@ use Rattle.clap.specs.Walk.{Rule, Text}
 use Rattle.clap.specs.declared.builder.action.ArgAction.TheVariants.{Append, SetTrue}
 use Rattle.clap.specs.declared.builder.value_parser.ValueParser.{ValueParser}
 use Rattle.clap.specs.declared.builder.value_parser.ValueParser.TheVariants.{Signed, Unsigned}
-use Rattle.b3_check.specs.Options.{max_output_len}
+use Rattle.b3_io.specs.Options.{max_output_len}
 
 -- an option without a value, and with one
 abbrev pub flag : Text → Rule

@@ -5,7 +5,7 @@ use Rattle.std.specs.Str.Parse.{IsNumeral, digits_value, without_leading_plus}
 use Rattle.clap.specs.Faults.{fault_of}
 use Rattle.clap.specs.Simple.{matches_of}
 use Rattle.clap.specs.Walk.{Row, Text, all_of, first_of, one_of}
-use Rattle.b3_check.specs.Options.{max_output_len}
+use Rattle.b3_io.specs.Options.{max_output_len}
 use Rattle.b3_program.specs.declared.words.Words.{Words}
 use Rattle.b3_call.specs.Options.{options}
 

@@ -1,7 +1,7 @@
 //! A call of the program, from its arguments to its status.
 
 ghost use Rattle.std.specs.Prelude.{◌^◌, ◌<◌, ◌&&◌, IfErr, IfOk};
-ghost use Rattle.b3_check.specs.Runs.{io_state};
+ghost use Rattle.b3_io.specs.Runs.{io_state};
 ghost use Rattle.b3_program.specs.Files.{contents_with, rest_of, told_if};
 ghost use Rattle.b3_call.specs.Calls.{AreWordsOf, CallsWith, EndsCall, IsStopOf, texts_in};
 

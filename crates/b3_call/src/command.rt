@@ -3,7 +3,7 @@
 ghost use Rattle.std.specs.Prelude.{◌≡◌, IfOk, Some, codes, pos};
 ghost use Rattle.clap.specs.declared.builder.value_parser.ValueParser.TheVariants as vp;
 ghost use Rattle.clap.specs.Words.{app_of, rule_of};
-ghost use Rattle.b3_check.specs.Options.{max_output_len};
+ghost use Rattle.b3_io.specs.Options.{max_output_len};
 ghost use Rattle.b3_call.specs.Options as spec;
 
 use b3_check::MAX_OUTPUT_LEN;

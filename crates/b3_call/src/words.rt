@@ -4,7 +4,7 @@ ghost use Rattle.std.specs.Prelude.{◌≡◌, ◌⊎◌, ◌<◌, ◌≤◌, �
 ghost use Rattle.std.specs.Prelude.{option_map, string_bytes};
 ghost use Rattle.std.specs.Option.{ForSome};
 ghost use Rattle.clap.specs.Words.{first_of, found_of, kind_of, rows_of};
-ghost use Rattle.b3_check.specs.Options.{max_output_len};
+ghost use Rattle.b3_io.specs.Options.{max_output_len};
 ghost use Rattle.b3_program.specs.declared.stop.Stop.TheVariants.{Memory, TooManyFiles};
 ghost use Rattle.b3_call.specs.Readings.{AreFrom, AreOf, files_in};
 ghost use Rattle.b3_call.specs.Refusals.{IsStopFor, IsStopOver};

@@ -23,30 +23,30 @@ use Rattle.b3_lines.proofs.OneLine.{HasNoLineFeed-plain, HasNoLineFeed-tagged}
 use Rattle.b3_lines.proofs.Outcomes.{SaysAs-from_IsReadAs}
 use Rattle.b3_lines.proofs.Pieces.{pieces_of-nil, pieces_of-piece}
 use Rattle.b3_lines.proofs.ReadBack.{Reads-plain, ReadsTagged-tagged}
-use Rattle.b3_check.specs.declared.fault.RunFault.{RunFault}
-use Rattle.b3_check.specs.declared.judging.Verdict.{Verdict}
-use Rattle.b3_check.specs.declared.judging.Verdict.TheVariants.{Good, Differs}
-use Rattle.b3_check.specs.declared.options.CheckOptions.{CheckOptions}
-use Rattle.b3_check.specs.declared.options.Form.{Form}
-use Rattle.b3_check.specs.declared.options.Form.TheVariants.{Named, Bare, Raw, Tagged}
-use Rattle.b3_check.specs.declared.options.SumOptions.{SumOptions}
-use Rattle.b3_check.specs.declared.shelf.Shelf.{Ghosts as ShelfWords}
-use Rattle.b3_check.specs.declared.sink.Sink.{Ghosts as SinkWords}
-use Rattle.b3_check.specs.declared.tally.Tally.{Tally}
-use Rattle.b3_check.specs.Contents.{Contents}
-use Rattle.b3_check.specs.Checks.{Entry, check_script, line_script, line_scripts, lines_script, list_end_script, verdict_on, verdict_report, warning_report, warning_script}
-use Rattle.b3_check.specs.Digests.{digest_of, digest_script, line_range}
+use Rattle.b3_io.specs.declared.fault.RunFault.{RunFault}
+use Rattle.b3_io.specs.declared.judging.Verdict.{Verdict}
+use Rattle.b3_io.specs.declared.judging.Verdict.TheVariants.{Good, Differs}
+use Rattle.b3_io.specs.declared.options.CheckOptions.{CheckOptions}
+use Rattle.b3_io.specs.declared.options.Form.{Form}
+use Rattle.b3_io.specs.declared.options.Form.TheVariants.{Named, Bare, Raw, Tagged}
+use Rattle.b3_io.specs.declared.options.SumOptions.{SumOptions}
+use Rattle.b3_io.specs.declared.shelf.Shelf.{Ghosts as ShelfWords}
+use Rattle.b3_io.specs.declared.sink.Sink.{Ghosts as SinkWords}
+use Rattle.b3_io.specs.declared.tally.Tally.{Tally}
+use Rattle.b3_io.specs.Contents.{Contents}
+use Rattle.b3_io.specs.Checks.{Entry, check_script, line_script, line_scripts, lines_script, list_end_script, verdict_on, verdict_report, warning_report, warning_script}
+use Rattle.b3_io.specs.Digests.{digest_of, digest_script, line_range}
 use Rattle.b3_check.specs.Laws.{AsksAll, AsksDigests, File, IsThere, Says, Writes, digest, oks_of, sums_of, total, verdict, verdict_over, verdicts_on}
-use Rattle.b3_check.specs.Operands.{Operand}
-use Rattle.b3_check.specs.Operands.Operand.{Text}
-use Rattle.b3_check.specs.Runs.{RanFrom, RanSurely, RanSurelyOver, IoState, io_state}
-use Rattle.b3_check.specs.Scripts.{Report, Script, answer_of, followed_by, in_turn, joined, report_from, then_counted}
-use Rattle.b3_check.specs.Scripts.Kind.{Hashed, Listed}
-use Rattle.b3_check.specs.Scripts.Script.{Ask, Done, Fail, Say}
-use Rattle.b3_check.specs.Sums.{digest_text, failed_report, is_bad_name, name_report, names_script, shows_name, sum_script}
-use Rattle.b3_check.specs.Tallies.{all_ok, no_tally, tally_sum}
-use Rattle.b3_check.proofs.CheckLemmas.{entry_of-read}
-use Rattle.b3_check.proofs.ScriptLemmas.{followed_by-Done, joined-joined, none-tally_sum, nothing-joined, tally_sum-none, tally_sum-tally_sum}
+use Rattle.b3_io.specs.Operands.{Operand}
+use Rattle.b3_io.specs.Operands.Operand.{Text}
+use Rattle.b3_io.specs.Runs.{RanFrom, RanSurely, RanSurelyOver, IoState, io_state}
+use Rattle.b3_io.specs.Scripts.{Report, Script, answer_of, followed_by, in_turn, joined, report_from, then_counted}
+use Rattle.b3_io.specs.Scripts.Kind.{Hashed, Listed}
+use Rattle.b3_io.specs.Scripts.Script.{Ask, Done, Fail, Say}
+use Rattle.b3_io.specs.Sums.{digest_text, failed_report, is_bad_name, name_report, names_script, shows_name, sum_script}
+use Rattle.b3_io.specs.Tallies.{all_ok, no_tally, tally_sum}
+use Rattle.b3_io.proofs.CheckLemmas.{entry_of-read}
+use Rattle.b3_io.proofs.ScriptLemmas.{followed_by-Done, joined-joined, none-tally_sum, nothing-joined, tally_sum-none, tally_sum-tally_sum}
 
 -- ---- a sum
 

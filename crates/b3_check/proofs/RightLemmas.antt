@@ -14,32 +14,32 @@ use Rattle.b3_lines.specs.Lines.{lines_of}
 use Rattle.b3_lines.specs.Reading.{IsReadAs, SaysOne, first_refusal}
 use Rattle.b3_lines.specs.declared.fault.LineFault.{LineFault}
 use Rattle.b3_lines.proofs.Outcomes.{SaysAs-from_IsReadAs, one_outcome}
-use Rattle.b3_check.specs.declared.fault.RunFault.{RunFault}
-use Rattle.b3_check.specs.declared.fault.RunFault.TheVariants.{BadKey}
-use Rattle.b3_check.specs.declared.judging.Verdict.TheVariants.{Good, Differs}
-use Rattle.b3_check.specs.declared.options.CheckOptions.{CheckOptions}
-use Rattle.b3_check.specs.declared.options.KeyChoice.{KeyChoice}
-use Rattle.b3_check.specs.declared.options.KeyChoice.TheVariants.{Plain, Keyed, Derive}
-use Rattle.b3_check.specs.declared.options.Limits.{Limits}
-use Rattle.b3_check.specs.declared.options.SumOptions.{SumOptions}
-use Rattle.b3_check.specs.declared.tally.Tally.{Tally}
-use Rattle.b3_check.specs.Checks.{Entry, check_script, entry_of, line_script, line_scripts, lines_script, list_end_report, list_operand_script, list_script, lists_script, refused_report, unnamed_list_report, unread_list_report, verdict_on, verdict_report, warning_report}
-use Rattle.b3_check.specs.Contents.{Contents, input_name}
-use Rattle.b3_check.specs.Digests.{digest_of, digest_script, line_range, range_of}
+use Rattle.b3_io.specs.declared.fault.RunFault.{RunFault}
+use Rattle.b3_io.specs.declared.fault.RunFault.TheVariants.{BadKey}
+use Rattle.b3_io.specs.declared.judging.Verdict.TheVariants.{Good, Differs}
+use Rattle.b3_io.specs.declared.options.CheckOptions.{CheckOptions}
+use Rattle.b3_io.specs.declared.options.KeyChoice.{KeyChoice}
+use Rattle.b3_io.specs.declared.options.KeyChoice.TheVariants.{Plain, Keyed, Derive}
+use Rattle.b3_io.specs.declared.options.Limits.{Limits}
+use Rattle.b3_io.specs.declared.options.SumOptions.{SumOptions}
+use Rattle.b3_io.specs.declared.tally.Tally.{Tally}
+use Rattle.b3_io.specs.Checks.{Entry, check_script, entry_of, line_script, line_scripts, lines_script, list_end_report, list_operand_script, list_script, lists_script, refused_report, unnamed_list_report, unread_list_report, verdict_on, verdict_report, warning_report}
+use Rattle.b3_io.specs.Contents.{Contents, input_name}
+use Rattle.b3_io.specs.Digests.{digest_of, digest_script, line_range, range_of}
 use Rattle.b3_check.specs.Laws.{IsJust, IsModeOf, LineIsRight, ListOperandIsRight, OperandIsRight, Says, Writes, WritesRightly, cannot_show, digest, total}
-use Rattle.b3_check.specs.Operands.{Operand}
-use Rattle.b3_check.specs.Operands.Operand.{Text, NotText}
-use Rattle.b3_check.specs.Runs.{IoState}
-use Rattle.b3_check.specs.Devices.{Runs}
-use Rattle.b3_check.specs.Scripts.{AgreesWith, Answer, AnswersFirst, IsComplete, Report, Script, answer_of, followed_by, in_turn, joined, nothing, report, then_counted}
-use Rattle.b3_check.specs.Scripts.Kind.{Hashed, Key, Listed}
-use Rattle.b3_check.specs.Scripts.Script.{Ask, Done, Fail, Say}
-use Rattle.b3_check.specs.Sinks.{GainsBeginning}
-use Rattle.b3_check.specs.Sums.{failed_report, keyed_script, name_report, name_script, names_script, not_text, operand_script, sum_script, with_mode}
-use Rattle.b3_check.specs.Tallies.{no_tally, tally_sum}
-use Rattle.b3_check.proofs.CheckLemmas.{entry_of-read}
-use Rattle.b3_check.proofs.Gains.{GainsBeginning-longer}
-use Rattle.b3_check.proofs.ScriptLemmas.{followed_by-counted, joined-joined, joined-nothing, none-tally_sum, nothing-joined, tally_sum-none, tally_sum-tally_sum}
+use Rattle.b3_io.specs.Operands.{Operand}
+use Rattle.b3_io.specs.Operands.Operand.{Text, NotText}
+use Rattle.b3_io.specs.Runs.{IoState}
+use Rattle.b3_io.specs.Devices.{Runs}
+use Rattle.b3_io.specs.Scripts.{AgreesWith, Answer, AnswersFirst, IsComplete, Report, Script, answer_of, followed_by, in_turn, joined, nothing, report, then_counted}
+use Rattle.b3_io.specs.Scripts.Kind.{Hashed, Key, Listed}
+use Rattle.b3_io.specs.Scripts.Script.{Ask, Done, Fail, Say}
+use Rattle.b3_io.specs.Sinks.{GainsBeginning}
+use Rattle.b3_io.specs.Sums.{failed_report, keyed_script, name_report, name_script, names_script, not_text, operand_script, sum_script, with_mode}
+use Rattle.b3_io.specs.Tallies.{no_tally, tally_sum}
+use Rattle.b3_io.proofs.CheckLemmas.{entry_of-read}
+use Rattle.b3_io.proofs.Gains.{GainsBeginning-longer}
+use Rattle.b3_io.proofs.ScriptLemmas.{followed_by-counted, joined-joined, joined-nothing, none-tally_sum, nothing-joined, tally_sum-none, tally_sum-tally_sum}
 
 -- a fact of the whole report of a script, whatever the answers are that agree with the contents
 abbrev pub Assures : Contents → Bool → Script → (Report → Type 0) → Type 0

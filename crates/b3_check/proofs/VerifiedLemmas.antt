@@ -5,19 +5,19 @@ use Rattle.std.specs.List.{AllByRecursion, AllZip}
 use Rattle.std.proofs.lemmas.Bool.{and_parts, cases_Bool, cond-false, eqb-true}
 use Rattle.std.proofs.lemmas.List.Elements.{All-from_recursion}
 use Rattle.b3_lines.specs.Lines.{lines_of}
-use Rattle.b3_check.specs.declared.fault.RunFault.{RunFault}
-use Rattle.b3_check.specs.declared.judging.Verdict.{Verdict}
-use Rattle.b3_check.specs.declared.judging.Verdict.TheVariants.{Good, Differs, Missing, Unreadable}
-use Rattle.b3_check.specs.declared.options.CheckOptions.{CheckOptions}
-use Rattle.b3_check.specs.declared.options.SumOptions.{SumOptions}
-use Rattle.b3_check.specs.declared.tally.Tally.{Tally}
-use Rattle.b3_check.specs.Checks.{Entry, list_end_report, verdict_report, warning_report}
-use Rattle.b3_check.specs.Contents.{Contents}
+use Rattle.b3_io.specs.declared.fault.RunFault.{RunFault}
+use Rattle.b3_io.specs.declared.judging.Verdict.{Verdict}
+use Rattle.b3_io.specs.declared.judging.Verdict.TheVariants.{Good, Differs, Missing, Unreadable}
+use Rattle.b3_io.specs.declared.options.CheckOptions.{CheckOptions}
+use Rattle.b3_io.specs.declared.options.SumOptions.{SumOptions}
+use Rattle.b3_io.specs.declared.tally.Tally.{Tally}
+use Rattle.b3_io.specs.Checks.{Entry, list_end_report, verdict_report, warning_report}
+use Rattle.b3_io.specs.Contents.{Contents}
 use Rattle.b3_check.specs.Laws.{HasLine, IsJust, LineIsRight, LineIsVerified, ListOperandIsRight, ListOperandIsVerified, OperandIsRight, WritesRightly, total}
-use Rattle.b3_check.specs.Operands.{Operand}
-use Rattle.b3_check.specs.Operands.Operand.{Text, NotText}
-use Rattle.b3_check.specs.Scripts.{Report, nothing}
-use Rattle.b3_check.specs.Tallies.{one_failed, one_missing, status_of}
+use Rattle.b3_io.specs.Operands.{Operand}
+use Rattle.b3_io.specs.Operands.Operand.{Text, NotText}
+use Rattle.b3_io.specs.Scripts.{Report, nothing}
+use Rattle.b3_io.specs.Tallies.{one_failed, one_missing, status_of}
 
 -- a tally of status 0 counts no failure
 none_failed : (tally : Tally) → status_of tally ≡ 0 → (tally.failed ≡ 0) × (tally.lists ≡ 0)

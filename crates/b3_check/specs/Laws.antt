@@ -11,23 +11,23 @@ use Rattle.b3_lines.specs.Names.{holds_bad_character}
 use Rattle.b3_lines.specs.Reading.{IsReadAs}
 use Rattle.b3_lines.specs.Writing.{shown}
 use Rattle.b3_lines.specs.declared.fault.LineFault.{LineFault}
-use Rattle.b3_check.specs.declared.fault.RunFault.{RunFault}
-use Rattle.b3_check.specs.declared.judging.Verdict.{Verdict}
-use Rattle.b3_check.specs.declared.judging.Verdict.TheVariants.{Good, Differs, Missing, Unreadable}
-use Rattle.b3_check.specs.declared.options.CheckOptions.{CheckOptions}
-use Rattle.b3_check.specs.declared.options.Form.{Form}
-use Rattle.b3_check.specs.declared.options.KeyChoice.{KeyChoice}
-use Rattle.b3_check.specs.declared.options.KeyChoice.TheVariants.{Plain, Keyed, Derive}
-use Rattle.b3_check.specs.declared.options.SumOptions.{SumOptions}
-use Rattle.b3_check.specs.declared.tally.Tally.{Tally}
-use Rattle.b3_check.specs.Checks.{Entry, list_end_report, refused_report, unnamed_list_report, unread_list_report, verdict_report, warning_report}
-use Rattle.b3_check.specs.Contents.{Contents, input_name}
-use Rattle.b3_check.specs.Operands.{Operand}
-use Rattle.b3_check.specs.Operands.Operand.{Text, NotText}
-use Rattle.b3_check.specs.Scripts.{Report, joined, nothing}
-use Rattle.b3_check.specs.Sinks.{GainsBeginning}
-use Rattle.b3_check.specs.Sums.{digest_report, digest_text, failed_report, is_bad_name, line_feed, not_text, shows_name}
-use Rattle.b3_check.specs.Tallies.{all_ok}
+use Rattle.b3_io.specs.declared.fault.RunFault.{RunFault}
+use Rattle.b3_io.specs.declared.judging.Verdict.{Verdict}
+use Rattle.b3_io.specs.declared.judging.Verdict.TheVariants.{Good, Differs, Missing, Unreadable}
+use Rattle.b3_io.specs.declared.options.CheckOptions.{CheckOptions}
+use Rattle.b3_io.specs.declared.options.Form.{Form}
+use Rattle.b3_io.specs.declared.options.KeyChoice.{KeyChoice}
+use Rattle.b3_io.specs.declared.options.KeyChoice.TheVariants.{Plain, Keyed, Derive}
+use Rattle.b3_io.specs.declared.options.SumOptions.{SumOptions}
+use Rattle.b3_io.specs.declared.tally.Tally.{Tally}
+use Rattle.b3_io.specs.Checks.{Entry, list_end_report, refused_report, unnamed_list_report, unread_list_report, verdict_report, warning_report}
+use Rattle.b3_io.specs.Contents.{Contents, input_name}
+use Rattle.b3_io.specs.Operands.{Operand}
+use Rattle.b3_io.specs.Operands.Operand.{Text, NotText}
+use Rattle.b3_io.specs.Scripts.{Report, joined, nothing}
+use Rattle.b3_io.specs.Sinks.{GainsBeginning}
+use Rattle.b3_io.specs.Sums.{digest_report, digest_text, failed_report, is_bad_name, line_feed, not_text, shows_name}
+use Rattle.b3_io.specs.Tallies.{all_ok}
 
 -- ---- the words
 

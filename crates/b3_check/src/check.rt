@@ -4,36 +4,28 @@ ghost use Rattle.std.specs.Prelude.{◌≡◌, ◌+◌, ◌*◌, ◌-◌, ◌^�
 ghost use Rattle.std.specs.List.{AllZip};
 ghost use Rattle.b3_lines.specs.Lines.{lines_of};
 ghost use Rattle.b3_lines.specs.Reading.{IsReadAs};
-ghost use Rattle.b3_check.specs.Checks.{Entry, check_script, entry_of, lines_script, list_operand_script, list_script, lists_script, warning_report};
-ghost use Rattle.b3_check.specs.Contents.{Contents};
-ghost use Rattle.b3_check.specs.Digests.{line_range};
-ghost use Rattle.b3_check.specs.Faults.{is_write_fault};
+ghost use Rattle.b3_io.specs.Checks.{Entry, check_script, entry_of, lines_script, list_operand_script, list_script, lists_script, warning_report};
+ghost use Rattle.b3_io.specs.Contents.{Contents};
+ghost use Rattle.b3_io.specs.Digests.{line_range};
+ghost use Rattle.b3_io.specs.Faults.{is_write_fault};
 ghost use Rattle.b3_check.specs.Laws.{AsksAll, File, IsThere, ListOperandIsRight, ListOperandIsVerified, Says, Writes, WritesRightly, oks_of, sums_of, verdicts_on};
-ghost use Rattle.b3_check.specs.Operands.{operand_of, operands_left};
-ghost use Rattle.b3_check.specs.Operands.Operand.{Text};
-ghost use Rattle.b3_check.specs.Options.{CanCheck, check_limits};
-ghost use Rattle.b3_check.specs.Devices.{CanCount, Runs, loans, io_state_of};
-ghost use Rattle.b3_check.specs.Runs.{Ran, RanSurely, Stopped, io_state};
-ghost use Rattle.b3_check.specs.Sums.{shows_name};
-ghost use Rattle.b3_check.specs.Tallies.{status_of};
-ghost use Rattle.b3_check.specs.Tasks.{counted};
-ghost use Rattle.b3_check.specs.declared.options.Form.{Form};
+ghost use Rattle.b3_io.specs.Operands.{operand_of, operands_left};
+ghost use Rattle.b3_io.specs.Operands.Operand.{Text};
+ghost use Rattle.b3_io.specs.Options.{CanCheck, check_limits};
+ghost use Rattle.b3_io.specs.Devices.{CanCount, Runs, loans, io_state_of};
+ghost use Rattle.b3_io.specs.Runs.{Ran, RanSurely, Stopped, io_state};
+ghost use Rattle.b3_io.specs.Sums.{shows_name};
+ghost use Rattle.b3_io.specs.Tallies.{status_of};
+ghost use Rattle.b3_io.specs.Tasks.{counted};
+ghost use Rattle.b3_io.specs.declared.options.Form.{Form};
 
-use crate::devices::Devices;
-use crate::engine::Engine;
-use crate::fault::RunFault;
-use crate::list_lines::ListLines;
-use crate::lists::ListReader;
-use crate::message::Message;
-use crate::operands::{Operand, Operands};
-use crate::options::CheckOptions;
-use crate::output_range::OutputRange;
-use crate::pool::Pool;
-use crate::shelf::Shelf;
-use crate::sink::Sink;
-use crate::tally::Tally;
 use b3_board::Gate;
 use b3_core::Mode;
+use b3_engine::Engine;
+use b3_io::{
+    CheckOptions, Devices, ListLines, ListReader, Message, Operand, Operands, OutputRange, Pool,
+    RunFault, Shelf, Sink, Tally,
+};
 use std::alloc::{AllocError, Global};
 use std::sync::Wait;
 use std::thread::Threads;

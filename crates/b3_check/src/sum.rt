@@ -1,34 +1,28 @@
 //! The run that writes the digest of each name.
 
 ghost use Rattle.std.specs.Prelude.{◌≡◌, ◌+◌, ◌-◌, ◌^◌, ◌<◌, ◌≤◌, List, All, Ok, Some, true, map, length, IfOk, IfErr, if◌then◌else◌};
-ghost use Rattle.b3_check.specs.Contents.{Contents};
-ghost use Rattle.b3_check.specs.Faults.{is_write_fault};
+ghost use Rattle.b3_io.specs.Contents.{Contents};
+ghost use Rattle.b3_io.specs.Faults.{is_write_fault};
 ghost use Rattle.b3_check.specs.Laws.{AsksDigests, File, HasLine, IsThere, OperandIsRight, Writes, WritesRightly, sums_of};
-ghost use Rattle.b3_check.specs.Operands.{operands_left};
-ghost use Rattle.b3_check.specs.Operands.Operand.{Text};
-ghost use Rattle.b3_check.specs.Options.{CanRun, limits_of};
-ghost use Rattle.b3_check.specs.Reading.{FindsMode};
-ghost use Rattle.b3_check.specs.Devices.{CanCount, Runs, loans, io_state_of};
-ghost use Rattle.b3_check.specs.Runs.{Ran, RanSurely, Stopped, io_state};
-ghost use Rattle.b3_check.specs.Scripts.{nothing};
-ghost use Rattle.b3_check.specs.Sums.{keys_asked, sum_script};
-ghost use Rattle.b3_check.specs.Tallies.{status_of};
-ghost use Rattle.b3_check.specs.declared.options.Form.TheVariants.{Raw};
+ghost use Rattle.b3_io.specs.Operands.{operands_left};
+ghost use Rattle.b3_io.specs.Operands.Operand.{Text};
+ghost use Rattle.b3_io.specs.Options.{CanRun, limits_of};
+ghost use Rattle.b3_io.specs.Reading.{FindsMode};
+ghost use Rattle.b3_io.specs.Devices.{CanCount, Runs, loans, io_state_of};
+ghost use Rattle.b3_io.specs.Runs.{Ran, RanSurely, Stopped, io_state};
+ghost use Rattle.b3_io.specs.Scripts.{nothing};
+ghost use Rattle.b3_io.specs.Sums.{keys_asked, sum_script};
+ghost use Rattle.b3_io.specs.Tallies.{status_of};
+ghost use Rattle.b3_io.specs.declared.options.Form.TheVariants.{Raw};
 
-use crate::devices::Devices;
-use crate::engine::Engine;
-use crate::fault::RunFault;
-use crate::items::Names;
-use crate::operands::Operands;
-use crate::options::{KeyChoice, SumOptions};
-use crate::output_range::OutputRange;
-use crate::pool::Pool;
-use crate::shelf::Shelf;
-use crate::sink::Sink;
-use crate::tally::Tally;
 use b3_board::Gate;
 use b3_core::Mode;
+use b3_engine::Engine;
 use b3_hash::derive_mode;
+use b3_io::{
+    Devices, KeyChoice, Names, Operands, OutputRange, Pool, RunFault, Shelf, Sink, SumOptions,
+    Tally,
+};
 use std::alloc::Global;
 use std::sync::Wait;
 use std::thread::Threads;

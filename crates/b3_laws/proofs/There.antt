@@ -5,11 +5,11 @@ use Rattle.std.proofs.lemmas.Bool.{false_from_ne_true}
 use Rattle.std.proofs.lemmas.List.Elements.{All-map}
 use Rattle.std.proofs.lemmas.Slice.Eq.{bytes_eq-Decides}
 use Rattle.std.proofs.lemmas.Str.{IsUtf8-string_bytes}
-use Rattle.b3_check.specs.declared.tally.Tally.{Tally}
-use Rattle.b3_check.specs.Contents.{Contents}
+use Rattle.b3_io.specs.declared.tally.Tally.{Tally}
+use Rattle.b3_io.specs.Contents.{Contents}
 use Rattle.b3_check.specs.Laws.{File as KnownFile, IsThere, Writes}
-use Rattle.b3_check.specs.MemoryShelves.{Puts}
-use Rattle.b3_check.specs.Scripts.{Report}
+use Rattle.b3_io.specs.MemoryShelves.{Puts}
+use Rattle.b3_io.specs.Scripts.{Report}
 use Rattle.b3_laws.specs.declared.files.File.{File}
 use Rattle.b3_laws.specs.declared.runs.Written.{Written}
 use Rattle.b3_laws.specs.Files.{CanBeShown, known}

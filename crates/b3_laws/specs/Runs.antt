@@ -1,5 +1,5 @@
 -- What was written, as a report.
-use Rattle.b3_check.specs.Scripts.{Report}
+use Rattle.b3_io.specs.Scripts.{Report}
 use Rattle.b3_laws.specs.declared.runs.Written.{Written}
 
 abbrev pub report_of : Written → Report

@@ -1,7 +1,7 @@
 //! Files in memory.
 
 ghost use Rattle.std.specs.Prelude.{◌≡◌, ℕ, List, IfOk, map, string_bytes};
-ghost use Rattle.b3_check.specs.MemoryShelves.{shelf_contents};
+ghost use Rattle.b3_io.specs.MemoryShelves.{shelf_contents};
 ghost use Rattle.b3_laws.specs.Files.{content_of};
 
 use b3_check::{MemoryShelf, Shelf};

@@ -2,7 +2,7 @@
 
 ghost use Rattle.std.specs.Prelude.{◌≡◌, ◌≢◌, ◌≤◌, ◌^◌, All, IfOk, length, map, string_bytes};
 ghost use Rattle.b3_check.specs.Laws.{oks_of, sums_of};
-ghost use Rattle.b3_check.specs.declared.options.Form.TheVariants.{Named};
+ghost use Rattle.b3_io.specs.declared.options.Form.TheVariants.{Named};
 ghost use Rattle.b3_laws.specs.Files.{AreNamed, known};
 ghost use Rattle.b3_laws.specs.Runs.{report_of};
 

@@ -2,9 +2,9 @@
 
 ghost use Rattle.std.specs.Prelude.{◌≡◌, ◌≤◌, ◌^◌, List, All, IfOk, Some, length, map, string_bytes};
 ghost use Rattle.b3_check.specs.Laws.{File, IsThere, oks_of, sums_of};
-ghost use Rattle.b3_check.specs.MemoryShelves.{shelf_contents};
-ghost use Rattle.b3_check.specs.MemorySinks.{sink_bytes};
-ghost use Rattle.b3_check.specs.declared.options.Form.TheVariants.{Named};
+ghost use Rattle.b3_io.specs.MemoryShelves.{shelf_contents};
+ghost use Rattle.b3_io.specs.MemorySinks.{sink_bytes};
+ghost use Rattle.b3_io.specs.declared.options.Form.TheVariants.{Named};
 ghost use Rattle.b3_laws.specs.Runs.{report_of};
 
 use b3_board::OpenGate;

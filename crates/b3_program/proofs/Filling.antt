@@ -2,8 +2,8 @@
 use Rattle.std.proofs.Common.{◌≡◌, ℕ, ◌+◌, ◌≤◌, List, [], ◌++◌, length, take, drop, sym, ◌∙◌, ap, append_assoc, length-append, length-drop, arith}
 use Rattle.std.proofs.Math.Seq.{take-append_seam}
 use Rattle.std.proofs.lemmas.List.{drop_all, drop-drop, drop-take, length-take-le, take-append-drop, take-take, take_all}
-use Rattle.b3_check.specs.Contents.{Gives}
-use Rattle.b3_check.proofs.ReadLemmas.{take-read}
+use Rattle.b3_io.specs.Contents.{Gives}
+use Rattle.b3_io.proofs.ReadLemmas.{take-read}
 
 -- a front and what stands behind it
 take-front : (front back : List ℕ) (n : ℕ) → length front ≡ n → take n (front ++ back) ≡ front

@@ -3,22 +3,22 @@ use Rattle.std.proofs.Common.{◌≡◌, ℕ, ◌+◌, Bool, false, if◌then◌
 use Rattle.std.specs.Global.{Global}
 use Rattle.std.specs.Io.KnownBytes.{Appends}
 use Rattle.std.specs.Prelude.{String}
-use Rattle.b3_check.specs.Operands.Operand.{Text}
-use Rattle.b3_check.specs.Reading.{IsReadingFault}
-use Rattle.b3_check.specs.Runs.{Gains, GainsPart, Ran, IoState, SinkState, Stopped, sink_failures}
-use Rattle.b3_check.specs.Scripts.{AgreesWith, Answer, Script, unread}
-use Rattle.b3_check.specs.Scripts.Kind.{Listed}
-use Rattle.b3_check.specs.Scripts.Script.{Done}
-use Rattle.b3_check.specs.Sinks.{GainsBeginning}
-use Rattle.b3_check.specs.Sums.{complaint, failed_report}
-use Rattle.b3_check.specs.Tallies.{one_failed}
-use Rattle.b3_check.specs.Faults.{fault_text, is_of_sink}
-use Rattle.b3_check.specs.declared.fault.RunFault.{RunFault}
-use Rattle.b3_check.specs.declared.fault.RunFault.TheVariants.{Memory, WriteFault}
-use Rattle.b3_check.specs.declared.options.Limits.{Limits}
-use Rattle.b3_check.proofs.Gains.{Appends-nil}
-use Rattle.b3_check.proofs.OperandLemmas.{map-Text}
-use Rattle.b3_check.proofs.RunLemmas.{broke_err, no_part, not_asked, ran_said, runs_surely, stopped_at_once, stopped_said, stopped_unanswered}
+use Rattle.b3_io.specs.Operands.Operand.{Text}
+use Rattle.b3_io.specs.Reading.{IsReadingFault}
+use Rattle.b3_io.specs.Runs.{Gains, GainsPart, Ran, IoState, SinkState, Stopped, sink_failures}
+use Rattle.b3_io.specs.Scripts.{AgreesWith, Answer, Script, unread}
+use Rattle.b3_io.specs.Scripts.Kind.{Listed}
+use Rattle.b3_io.specs.Scripts.Script.{Done}
+use Rattle.b3_io.specs.Sinks.{GainsBeginning}
+use Rattle.b3_io.specs.Sums.{complaint, failed_report}
+use Rattle.b3_io.specs.Tallies.{one_failed}
+use Rattle.b3_io.specs.Faults.{fault_text, is_of_sink}
+use Rattle.b3_io.specs.declared.fault.RunFault.{RunFault}
+use Rattle.b3_io.specs.declared.fault.RunFault.TheVariants.{Memory, WriteFault}
+use Rattle.b3_io.specs.declared.options.Limits.{Limits}
+use Rattle.b3_io.proofs.Gains.{Appends-nil}
+use Rattle.b3_io.proofs.OperandLemmas.{map-Text}
+use Rattle.b3_io.proofs.RunLemmas.{broke_err, no_part, not_asked, ran_said, runs_surely, stopped_at_once, stopped_said, stopped_unanswered}
 use Rattle.b3_program.specs.Programs.{Does, EndsAtFault, IsRead, names_of, operands_of, reading_script, unread_script, with_err}
 use Rattle.b3_program.specs.Said.{IsSaid, SaysLine, line_of}
 

@@ -1,21 +1,21 @@
 -- What a task that is done writes, over a shelf that tells its contents.
 use Rattle.std.proofs.Common.{◌≡◌, ◌⊎◌, ℕ, Bool, true, false, List, [], ◌∷◌, ◌++◌, Option, None, Some, Result, Ok, Err, refl, sym, ◌∙◌, ap, subst, length, arith, inl, inr, codes, string_bytes}
 use Rattle.std.specs.Io.KnownBytes.{Appends}
-use Rattle.b3_check.specs.Contents.{Contents}
-use Rattle.b3_check.specs.Faults.{fault_text}
-use Rattle.b3_check.specs.Operands.{Operand, operands_in}
-use Rattle.b3_check.specs.Options.{check_limits, limits_of}
-use Rattle.b3_check.specs.Runs.{IoState, SinkState}
-use Rattle.b3_check.specs.Devices.{Runs}
-use Rattle.b3_check.specs.Scripts.{AgreesWith, Answer, Script, answer_of, report}
-use Rattle.b3_check.specs.Scripts.Kind.{Listed}
-use Rattle.b3_check.specs.Sinks.{GainsBeginning}
-use Rattle.b3_check.specs.Sums.{complaint}
-use Rattle.b3_check.specs.Tallies.{status_of}
-use Rattle.b3_check.specs.declared.fault.RunFault.{RunFault}
-use Rattle.b3_check.specs.declared.options.Limits.{Limits}
-use Rattle.b3_check.specs.declared.tally.Tally.{Tally}
-use Rattle.b3_check.proofs.Gains.{Appends-nil, GainsBeginning-all, GainsBeginning-append}
+use Rattle.b3_io.specs.Contents.{Contents}
+use Rattle.b3_io.specs.Faults.{fault_text}
+use Rattle.b3_io.specs.Operands.{Operand, operands_in}
+use Rattle.b3_io.specs.Options.{check_limits, limits_of}
+use Rattle.b3_io.specs.Runs.{IoState, SinkState}
+use Rattle.b3_io.specs.Devices.{Runs}
+use Rattle.b3_io.specs.Scripts.{AgreesWith, Answer, Script, answer_of, report}
+use Rattle.b3_io.specs.Scripts.Kind.{Listed}
+use Rattle.b3_io.specs.Sinks.{GainsBeginning}
+use Rattle.b3_io.specs.Sums.{complaint}
+use Rattle.b3_io.specs.Tallies.{status_of}
+use Rattle.b3_io.specs.declared.fault.RunFault.{RunFault}
+use Rattle.b3_io.specs.declared.options.Limits.{Limits}
+use Rattle.b3_io.specs.declared.tally.Tally.{Tally}
+use Rattle.b3_io.proofs.Gains.{Appends-nil, GainsBeginning-all, GainsBeginning-append}
 use Rattle.b3_check.proofs.RightLemmas.{WritesRightly-checks, WritesRightly-sums}
 use Rattle.b3_check.proofs.VerifiedLemmas.{AllVerified-from_right, WritesRightly-lines}
 use Rattle.b3_program.specs.Lists.{refusal_over}

@@ -4,9 +4,9 @@ use Rattle.std.specs.declared.io.ErrorKind.{ErrorKind}
 use Rattle.std.specs.declared.io.ErrorKind.TheVariants.{NotFound, NotADirectory}
 use Rattle.b3_program.specs.declared.disk.FileKind.{FileKind}
 use Rattle.b3_program.specs.declared.disk.FileKind.TheVariants.{Plain, Folder, Other}
-use Rattle.b3_check.specs.declared.shelf.NoContent.{NoContent}
-use Rattle.b3_check.specs.declared.shelf.NoContent.TheVariants.{Missing}
-use Rattle.b3_check.specs.Contents.{Gives}
+use Rattle.b3_io.specs.declared.shelf.NoContent.{NoContent}
+use Rattle.b3_io.specs.declared.shelf.NoContent.TheVariants.{Missing}
+use Rattle.b3_io.specs.Contents.{Gives}
 
 -- how many bytes a read gave
 abbrev pub count_of : {E : Type 0} → Result ℕ E → ℕ

@@ -1,6 +1,6 @@
 -- What a shelf of files tells.
 use Rattle.std.specs.Prelude.{ℕ, Bool, true, false, if◌then◌else◌, List, drop, Option, None, Some, bytes_eq}
-use Rattle.b3_check.specs.Contents.{Contents, input_name}
+use Rattle.b3_io.specs.Contents.{Contents, input_name}
 
 -- what is left of a stream
 abbrev pub rest_of : {T : Type 0} → (T → List ℕ) → (T → ℕ) → T → List ℕ

@@ -1,13 +1,13 @@
 -- Why a job is not done over the names in a list.
 use Rattle.std.specs.Prelude.{◌&&◌, ℕ, Bool, false, true, if◌then◌else◌, List, Option, None, Some, bytes_eq, length, nat_lt}
 use Rattle.std.specs.List.{list_any}
-use Rattle.b3_check.specs.Contents.{input_name}
-use Rattle.b3_check.specs.Operands.{Operand}
-use Rattle.b3_check.specs.Operands.Operand.{Text, NotText}
-use Rattle.b3_check.specs.declared.options.Form.{Form}
-use Rattle.b3_check.specs.declared.options.Form.TheVariants.{Named, Bare, Raw, Tagged}
-use Rattle.b3_check.specs.declared.options.KeyChoice.{KeyChoice}
-use Rattle.b3_check.specs.declared.options.KeyChoice.TheVariants.{Plain, Keyed, Derive}
+use Rattle.b3_io.specs.Contents.{input_name}
+use Rattle.b3_io.specs.Operands.{Operand}
+use Rattle.b3_io.specs.Operands.Operand.{Text, NotText}
+use Rattle.b3_io.specs.declared.options.Form.{Form}
+use Rattle.b3_io.specs.declared.options.Form.TheVariants.{Named, Bare, Raw, Tagged}
+use Rattle.b3_io.specs.declared.options.KeyChoice.{KeyChoice}
+use Rattle.b3_io.specs.declared.options.KeyChoice.TheVariants.{Plain, Keyed, Derive}
 use Rattle.b3_program.specs.Usages.{usage_text}
 use Rattle.b3_program.specs.declared.task.Job.{Job}
 use Rattle.b3_program.specs.declared.task.Job.TheVariants.{Sum, Check}

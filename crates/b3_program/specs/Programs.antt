@@ -2,24 +2,24 @@
 use Rattle.std.specs.Prelude.{◌≡◌, ◌≢◌, ◌⊎◌, ⊤, ◌^◌, ◌≤◌, ℕ, List, [], ◌∷◌, All, Bool, Option, None, Some, Result, Ok, Err, MatchResult, String, codes, length, map, string_bytes}
 use Rattle.std.specs.Global.{Global}
 use Rattle.std.specs.Io.KnownBytes.{Appends}
-use Rattle.b3_check.specs.declared.fault.RunFault.{RunFault}
-use Rattle.b3_check.specs.declared.options.Form.TheVariants.{Raw}
-use Rattle.b3_check.specs.declared.options.Limits.{Limits}
-use Rattle.b3_check.specs.declared.tally.Tally.{Tally}
-use Rattle.b3_check.specs.Checks.{check_script, warning_report}
-use Rattle.b3_check.specs.Contents.{Contents, input_name}
-use Rattle.b3_check.specs.Faults.{fault_text}
+use Rattle.b3_io.specs.declared.fault.RunFault.{RunFault}
+use Rattle.b3_io.specs.declared.options.Form.TheVariants.{Raw}
+use Rattle.b3_io.specs.declared.options.Limits.{Limits}
+use Rattle.b3_io.specs.declared.tally.Tally.{Tally}
+use Rattle.b3_io.specs.Checks.{check_script, warning_report}
+use Rattle.b3_io.specs.Contents.{Contents, input_name}
+use Rattle.b3_io.specs.Faults.{fault_text}
 use Rattle.b3_check.specs.Laws.{HasLine, ListOperandIsRight, ListOperandIsVerified, OperandIsRight, WritesRightly}
-use Rattle.b3_check.specs.Operands.{Operand, operands_in}
-use Rattle.b3_check.specs.Operands.Operand.{Text}
-use Rattle.b3_check.specs.Options.{CanCheck, CanRun, check_limits, limits_of}
-use Rattle.b3_check.specs.Runs.{Heard, Ran, RanSurely, IoState, SinkState, Stopped}
-use Rattle.b3_check.specs.Scripts.{AgreesWith, Answer, Script, nothing}
-use Rattle.b3_check.specs.Scripts.Kind.{Listed}
-use Rattle.b3_check.specs.Scripts.Script.{Ask, Done, Say}
-use Rattle.b3_check.specs.Sinks.{GainsBeginning}
-use Rattle.b3_check.specs.Sums.{failed_report, sum_script}
-use Rattle.b3_check.specs.Tallies.{status_of}
+use Rattle.b3_io.specs.Operands.{Operand, operands_in}
+use Rattle.b3_io.specs.Operands.Operand.{Text}
+use Rattle.b3_io.specs.Options.{CanCheck, CanRun, check_limits, limits_of}
+use Rattle.b3_io.specs.Runs.{Heard, Ran, RanSurely, IoState, SinkState, Stopped}
+use Rattle.b3_io.specs.Scripts.{AgreesWith, Answer, Script, nothing}
+use Rattle.b3_io.specs.Scripts.Kind.{Listed}
+use Rattle.b3_io.specs.Scripts.Script.{Ask, Done, Say}
+use Rattle.b3_io.specs.Sinks.{GainsBeginning}
+use Rattle.b3_io.specs.Sums.{failed_report, sum_script}
+use Rattle.b3_io.specs.Tallies.{status_of}
 use Rattle.b3_program.specs.Lists.{refusal_over}
 use Rattle.b3_program.specs.Said.{IsSaid, line_of}
 use Rattle.b3_program.specs.Tasks.{task_for}

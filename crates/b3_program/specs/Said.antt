@@ -1,8 +1,8 @@
 -- A text of the program's own, on a sink.
 use Rattle.std.specs.Prelude.{◌≡◌, ℕ, ◌+◌, Bool, true, false, List, [], ◌∷◌, ◌++◌, if◌then◌else◌}
 use Rattle.std.specs.Io.KnownBytes.{Appends}
-use Rattle.b3_check.specs.Runs.{SinkState}
-use Rattle.b3_check.specs.Sinks.{GainsBeginning}
+use Rattle.b3_io.specs.Runs.{SinkState}
+use Rattle.b3_io.specs.Sinks.{GainsBeginning}
 
 -- a text and a line feed
 abbrev pub line_of : List ℕ → List ℕ

@@ -3,9 +3,9 @@ use Rattle.std.specs.Prelude.{◌≡◌, ◌≢◌, ℕ, List, ◌++◌, Bool, t
 use Rattle.std.specs.IoError.{error_kind}
 use Rattle.std.specs.declared.io.Error.{Error}
 use Rattle.std.specs.declared.io.ErrorKind.TheVariants.{InvalidData}
-use Rattle.b3_check.specs.Faults.{fault_text, prefix}
-use Rattle.b3_check.specs.Runs.{SinkState}
-use Rattle.b3_check.specs.declared.fault.RunFault.TheVariants as RunFault
+use Rattle.b3_io.specs.Faults.{fault_text, prefix}
+use Rattle.b3_io.specs.Runs.{SinkState}
+use Rattle.b3_io.specs.declared.fault.RunFault.TheVariants as RunFault
 use Rattle.b3_program.specs.Said.{IsSaid, line_of}
 use Rattle.b3_program.specs.declared.stop.Stop.{Stop}
 use Rattle.b3_program.specs.declared.stop.Stop.TheVariants.{NotText, Memory, TooManyFiles, Refused, Asked}

@@ -1,12 +1,12 @@
 -- What the words of a call ask for.
 use Rattle.std.specs.Prelude.{ℕ, min, ◌==◌, ◌^◌, if◌then◌else◌, Option, None, Some, unwrap_or}
 use Rattle.std.specs.Option.{option_map_or}
-use Rattle.b3_check.specs.declared.options.CheckOptions.{CheckOptions}
-use Rattle.b3_check.specs.declared.options.Form.{Form}
-use Rattle.b3_check.specs.declared.options.Form.TheVariants.{Named, Bare, Raw, Tagged}
-use Rattle.b3_check.specs.declared.options.KeyChoice.{KeyChoice}
-use Rattle.b3_check.specs.declared.options.KeyChoice.TheVariants.{Plain, Keyed, Derive}
-use Rattle.b3_check.specs.declared.options.SumOptions.{SumOptions}
+use Rattle.b3_io.specs.declared.options.CheckOptions.{CheckOptions}
+use Rattle.b3_io.specs.declared.options.Form.{Form}
+use Rattle.b3_io.specs.declared.options.Form.TheVariants.{Named, Bare, Raw, Tagged}
+use Rattle.b3_io.specs.declared.options.KeyChoice.{KeyChoice}
+use Rattle.b3_io.specs.declared.options.KeyChoice.TheVariants.{Plain, Keyed, Derive}
+use Rattle.b3_io.specs.declared.options.SumOptions.{SumOptions}
 use Rattle.b3_program.specs.declared.task.Job.{Job}
 use Rattle.b3_program.specs.declared.task.Job.TheVariants.{Sum, Check}
 use Rattle.b3_program.specs.declared.task.Names.{Names}

@@ -3,8 +3,8 @@ use Rattle.std.specs.Prelude.{ℕ, ◌+◌, ◌-◌, ◌^◌, List, [], ◌∷�
 use Rattle.std.specs.Global.{Global}
 use Rattle.std.specs.List.{list_any}
 use Rattle.std.specs.Option.{option_map, option_map_or}
-use Rattle.b3_check.specs.Contents.{input_name}
-use Rattle.b3_check.specs.Faults.{prefix}
+use Rattle.b3_io.specs.Contents.{input_name}
+use Rattle.b3_io.specs.Faults.{prefix}
 use Rattle.b3_program.specs.declared.usage.Usage.{Usage}
 use Rattle.b3_program.specs.declared.usage.Usage.TheVariants.{CheckExcludes, TwoKeys, QuietAlone, RawOne, KeyNeedsFiles, TagExcludes, SeekPastEnd, IgnoreMissingAlone, StatusAlone, StrictAlone, WarnAlone, ListTakesNoFile}
 use Rattle.b3_program.specs.declared.words.Words.{Words}

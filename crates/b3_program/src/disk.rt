@@ -4,7 +4,7 @@ ghost use Rattle.std.specs.Prelude.{◌≡◌, ℕ, ◌+◌, ◌<◌, Bool, IsTr
 ghost use Rattle.std.specs.Io.{ReadsAtMost};
 ghost use Rattle.std.specs.IoError.{error_kind};
 ghost use Rattle.std.specs.declared.io.ErrorKind.{ErrorKind};
-ghost use Rattle.b3_check.specs.Contents.{Contents};
+ghost use Rattle.b3_io.specs.Contents.{Contents};
 ghost use Rattle.b3_program.specs.Disks.{IsOfMissing, ReadsAt, TellsLen, count_of};
 
 use std::io;

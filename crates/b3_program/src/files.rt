@@ -1,7 +1,7 @@
 ghost use Rattle.std.specs.Prelude.{◌≡◌, ◌≢◌, ◌↔◌, ◌+◌, ◌-◌, ◌^◌, ◌<◌, ◌≤◌, ◌&&◌, [], true, false, Some, None, Err, IsTrue, IsSome, IsOk, OnOk, OnErr, IfOk, IfErr, IfSome, length, take, drop, is_err, is_ok, is_some, if◌then◌else◌};
 ghost use Rattle.std.specs.IoError.{error_kind};
-ghost use Rattle.b3_check.specs.Contents.{Gives, HasContent, StandsForContent, LacksContent, input_name};
-ghost use Rattle.b3_check.specs.declared.shelf.NoContent.TheVariants.{Missing};
+ghost use Rattle.b3_io.specs.Contents.{Gives, HasContent, StandsForContent, LacksContent, input_name};
+ghost use Rattle.b3_io.specs.declared.shelf.NoContent.TheVariants.{Missing};
 ghost use Rattle.b3_hash.specs.Hashers.{StandsFor, mode_of};
 ghost use Rattle.b3_program.specs.Disks.{IsOfMissing, IsRefusedBy};
 ghost use Rattle.b3_program.specs.Files.{contents_with, rest_of, told_if};

@@ -1,7 +1,7 @@
 // Standard input that is a plain file, which workers read at offsets.
 
 ghost use Rattle.std.specs.Prelude.{◌≡◌, ◌+◌, ◌<◌, ◌≤◌, true, IsTrue, length, take, IfSome};
-ghost use Rattle.b3_check.specs.Contents.{Gives};
+ghost use Rattle.b3_io.specs.Contents.{Gives};
 ghost use Rattle.b3_program.specs.Sources.{file_rest, input_rest};
 
 use crate::disk::{DiskFile, Input, Stream};

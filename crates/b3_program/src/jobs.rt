@@ -1,8 +1,8 @@
 // Jobs over operands.
 
 ghost use Rattle.std.specs.Prelude.{◌+◌, ◌^◌, ◌<◌, ◌≤◌, ◌≡◌, IfOk, IfErr};
-ghost use Rattle.b3_check.specs.Operands.{operands_left};
-ghost use Rattle.b3_check.specs.Runs.{Ran, RanSurely, Stopped, io_state};
+ghost use Rattle.b3_io.specs.Operands.{operands_left};
+ghost use Rattle.b3_io.specs.Runs.{Ran, RanSurely, Stopped, io_state};
 ghost use Rattle.b3_program.specs.Programs.{CanDo, CanTake, DoesJob, limits_for, script_of};
 
 use crate::say::fail;

@@ -3,9 +3,9 @@
 ghost use Rattle.std.specs.Prelude.{◌≡◌, ◌-◌, ◌^◌, ◌<◌, ◌≤◌, length, nat_lt};
 ghost use Rattle.std.specs.List.{list_any};
 ghost use Rattle.std.specs.Option.{option_map};
-ghost use Rattle.b3_check.specs.Operands.{operand_of, operands_in, operands_left};
-ghost use Rattle.b3_check.specs.Runs.{IoState, io_state, sink_state};
-ghost use Rattle.b3_check.specs.declared.options.Limits.{Limits};
+ghost use Rattle.b3_io.specs.Operands.{operand_of, operands_in, operands_left};
+ghost use Rattle.b3_io.specs.Runs.{IoState, io_state, sink_state};
+ghost use Rattle.b3_io.specs.declared.options.Limits.{Limits};
 ghost use Rattle.b3_program.specs.Lists.{is_input_operand, is_keyed, is_raw, refusal_over};
 ghost use Rattle.b3_program.specs.Programs.{CanDo, Does, DoesByList, DoesJob, EndsAs, unread_script, with_err};
 ghost use Rattle.b3_program.specs.Usages.{usage_text};

@@ -1,6 +1,6 @@
 ghost use Rattle.std.specs.Prelude.{◌≡◌, ◌^◌, ◌<◌, None, Some, IfOk, map, string_bytes};
-ghost use Rattle.b3_check.specs.Contents.{Contents};
-ghost use Rattle.b3_check.specs.Runs.{io_state};
+ghost use Rattle.b3_io.specs.Contents.{Contents};
+ghost use Rattle.b3_io.specs.Runs.{io_state};
 ghost use Rattle.b3_program.specs.Programs.{CanDo, CanTake, CanTakeNames, DoesJob, DoesTask, Ends, EndsRightly, IsDone, names_of, operands_of};
 ghost use Rattle.b3_program.specs.Tasks.{task_for};
 ghost use Rattle.b3_program.specs.Usages.{refusal_for};

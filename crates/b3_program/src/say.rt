@@ -2,9 +2,9 @@
 
 ghost use Rattle.std.specs.Prelude.{◌≡◌, ◌+◌, ◌-◌, ◌^◌, ◌<◌, ◌++◌, OnOk, OnErr, is_err, if◌then◌else◌};
 ghost use Rattle.std.specs.Io.KnownBytes.{Appends};
-ghost use Rattle.b3_check.specs.Faults.{fault_text};
-ghost use Rattle.b3_check.specs.Runs.{sink_state};
-ghost use Rattle.b3_check.specs.Sinks.{GainsBeginning};
+ghost use Rattle.b3_io.specs.Faults.{fault_text};
+ghost use Rattle.b3_io.specs.Runs.{sink_state};
+ghost use Rattle.b3_io.specs.Sinks.{GainsBeginning};
 ghost use Rattle.b3_program.specs.Said.{IsSaid, SaysLine, line_of};
 ghost use Rattle.b3_program.specs.Usages.{usage_text};
 

@@ -1,7 +1,7 @@
 // Where the bytes of a shelf of files come from.
 
 ghost use Rattle.std.specs.Prelude.{◌≡◌, ℕ, ◌+◌, ◌<◌, ◌≤◌, true, false, IsTrue, List, length, take, drop, Some, IfSome};
-ghost use Rattle.b3_check.specs.Contents.{Gives};
+ghost use Rattle.b3_io.specs.Contents.{Gives};
 ghost use Rattle.b3_program.specs.Files.{rest_of};
 ghost use Rattle.b3_program.specs.Sources.{is_input, is_open, file_side, input_side, source_left, source_position, source_tells};
 

@@ -27,7 +27,7 @@ pub enum Stop {
 }
 
 impl Stop {
-    ghost use Rattle.b3_check.specs.Runs.{sink_state};
+    ghost use Rattle.b3_io.specs.Runs.{sink_state};
     ghost use Rattle.b3_program.specs.Stops.{EndsBy};
 
     /// Says why, and answers the status. Help and version are no faults, unless they cannot be written.

@@ -1,6 +1,6 @@
 ghost use Rattle.std.specs.Prelude.{◌≡◌, ◌≤◌, ◌^◌, ◌&&◌, not, vec_len};
 ghost use Rattle.std.specs.Option.{ForSome};
-ghost use Rattle.b3_check.specs.Options.{max_output_len};
+ghost use Rattle.b3_io.specs.Options.{max_output_len};
 
 /// What the words of a call say.
 #[derive(Debug, Drop)]

@@ -2,9 +2,9 @@
 use Rattle.std.specs.Prelude.{◌≡◌, ◌⊎◌, ℕ, List, ◌++◌, Some, codes}
 use Rattle.b3_core.specs.Modes.{hash_mode}
 use Rattle.b3_core.specs.Output.{blake3}
-use Rattle.b3_check.specs.Contents.{Contents}
-use Rattle.b3_check.specs.Sums.{complaint, digest_text}
-use Rattle.b3_check.specs.declared.options.Form.TheVariants.{Named}
+use Rattle.b3_io.specs.Contents.{Contents}
+use Rattle.b3_io.specs.Sums.{complaint, digest_text}
+use Rattle.b3_io.specs.declared.options.Form.TheVariants.{Named}
 
 -- the name is there, and the output gained its line: the BLAKE3 digest of its content, two spaces and the name
 pub record HasLine (contents : Contents) (name out out_after err err_after : List ℕ) : Type 0 where

@@ -2,8 +2,8 @@
 //! written.
 
 ghost use Rattle.std.specs.Prelude.{◌≡◌, ◌^◌, ◌<◌, [], ◌∷◌, false, string_bytes, IfOk};
-ghost use Rattle.b3_check.specs.MemorySinks.{sink_bytes};
-ghost use Rattle.b3_check.specs.Sums.{is_bad_name};
+ghost use Rattle.b3_io.specs.MemorySinks.{sink_bytes};
+ghost use Rattle.b3_io.specs.Sums.{is_bad_name};
 ghost use Rattle.b3_program.specs.Files.{contents_with};
 ghost use Rattle.b3_program.specs.MemoryDisks.{content_among};
 ghost use Rattle.b3_program_tests.specs.InMemory.{IsSummed};

@@ -1,7 +1,7 @@
 // Files that fail once, and one that has no end.
 
 ghost use Rattle.std.specs.Prelude.{◌≡◌, ◌+◌, [], false, None, Some, if◌then◌else◌};
-ghost use Rattle.b3_check.specs.MemoryShelves.{shelf_contents, shelf_left};
+ghost use Rattle.b3_io.specs.MemoryShelves.{shelf_contents, shelf_left};
 
 use crate::tests::recording::is_at_fault;
 use b3_check::{CannotRead, MemoryShelf, NoContent, Shelf};

@@ -2,7 +2,7 @@
 // next.
 
 ghost use Rattle.std.specs.Prelude.{◌^◌, ◌<◌, ◌≤◌, length};
-ghost use Rattle.b3_check.specs.Operands.{operands_left};
+ghost use Rattle.b3_io.specs.Operands.{operands_left};
 
 use b3_board::OpenGate;
 use b3_check::{

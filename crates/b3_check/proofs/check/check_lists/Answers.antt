@@ -1,12 +1,12 @@
 use Rattle.std.proofs.Common.{Ok, ◌∙◌, ap, inl, sym}
 use Rattle.std.proofs.lemmas.Result.{err_from_is_err_and}
-use Rattle.b3_check.specs.Checks.{warning_report, warning_script}
-use Rattle.b3_check.specs.Options.{check_limits}
-use Rattle.b3_check.specs.Scripts.{Report}
-use Rattle.b3_check.specs.Tallies.{no_tally, tally_sum}
-use Rattle.b3_check.proofs.CheckLemmas.{ran_summed, stopped_summing, stopped_unsummed}
-use Rattle.b3_check.proofs.RunLemmas.{runs_surely, stopped_at_once, stopped_early_counted}
-use Rattle.b3_check.proofs.ScriptLemmas.{tally_sum-none}
+use Rattle.b3_io.specs.Checks.{warning_report, warning_script}
+use Rattle.b3_io.specs.Options.{check_limits}
+use Rattle.b3_io.specs.Scripts.{Report}
+use Rattle.b3_io.specs.Tallies.{no_tally, tally_sum}
+use Rattle.b3_io.proofs.CheckLemmas.{ran_summed, stopped_summing, stopped_unsummed}
+use Rattle.b3_io.proofs.RunLemmas.{runs_surely, stopped_at_once, stopped_early_counted}
+use Rattle.b3_io.proofs.ScriptLemmas.{tally_sum-none}
 use Rattle.b3_check.proofs.check.check_lists.Goals as goal
 
 pub returns-in_err-checker-clause-run : goal.returns-in_err-checker-clause-run

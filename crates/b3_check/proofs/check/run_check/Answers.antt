@@ -1,12 +1,12 @@
 use Rattle.std.proofs.Common.{rules, ◌∙◌, List, ap, sym}
 use Rattle.std.proofs.lemmas.List.Elements.{recursion_from_All}
-use Rattle.b3_check.specs.Checks.{check_script}
+use Rattle.b3_io.specs.Checks.{check_script}
 use Rattle.b3_check.specs.Laws.{IsThere, oks_of, verdicts_on}
-use Rattle.b3_check.specs.Operands.{Operand, operands_left}
-use Rattle.b3_check.specs.Scripts.{report_from}
-use Rattle.b3_check.proofs.CheckLemmas.{entry_of-read}
+use Rattle.b3_io.specs.Operands.{Operand, operands_left}
+use Rattle.b3_io.specs.Scripts.{report_from}
+use Rattle.b3_io.proofs.CheckLemmas.{entry_of-read}
 use Rattle.b3_check.proofs.LawLemmas.{report_from-checked, report_from-sums, wrote_surely}
-use Rattle.b3_check.specs.Options.{check_limits}
+use Rattle.b3_io.specs.Options.{check_limits}
 use Rattle.b3_check.proofs.RightLemmas.{WritesRightly-checks}
 use Rattle.b3_check.proofs.VerifiedLemmas.{AllVerified-from_right}
 use Rattle.b3_check.proofs.check.run_check.Goals as goal

@@ -1,10 +1,10 @@
 use Rattle.std.proofs.Common.{rules}
 use Rattle.std.proofs.lemmas.List.Elements.{recursion_from_All}
 use Rattle.b3_check.specs.Laws.{IsThere, sums_of}
-use Rattle.b3_check.specs.Operands.{operands_left}
-use Rattle.b3_check.specs.Sums.{sum_script}
+use Rattle.b3_io.specs.Operands.{operands_left}
+use Rattle.b3_io.specs.Sums.{sum_script}
 use Rattle.b3_check.proofs.LawLemmas.{report_from-summed, wrote_surely}
-use Rattle.b3_check.specs.Options.{limits_of}
+use Rattle.b3_io.specs.Options.{limits_of}
 use Rattle.b3_check.proofs.RightLemmas.{WritesRightly-sums}
 use Rattle.b3_check.proofs.VerifiedLemmas.{WritesRightly-lines}
 use Rattle.b3_check.proofs.sum.run_sum.Goals as goal

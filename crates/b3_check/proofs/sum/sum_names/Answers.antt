@@ -2,12 +2,12 @@ use Rattle.std.proofs.Common.{◌<◌, ◌^◌, Err, arith, length, refl, subst,
 use Rattle.std.proofs.lemmas.List.{length-map}
 use Rattle.std.proofs.lemmas.Result.{err_from_is_err_and}
 use Rattle.b3_core.specs.declared.modes.Mode.{Mode}
-use Rattle.b3_check.specs.Devices.{CanCount, io_state_of}
-use Rattle.b3_check.specs.Digests.{range_of}
-use Rattle.b3_check.specs.Operands.{operands_left}
-use Rattle.b3_check.specs.Sums.{names_script}
-use Rattle.b3_check.proofs.RunLemmas.{mode_count, mode_room, runs_in_mode, runs_surely, stopped_at_once, stopped_in_mode}
-use Rattle.b3_check.proofs.TaskLemmas.{tasks_script-operands}
+use Rattle.b3_io.specs.Devices.{CanCount, io_state_of}
+use Rattle.b3_io.specs.Digests.{range_of}
+use Rattle.b3_io.specs.Operands.{operands_left}
+use Rattle.b3_io.specs.Sums.{names_script}
+use Rattle.b3_io.proofs.RunLemmas.{mode_count, mode_room, runs_in_mode, runs_surely, stopped_at_once, stopped_in_mode}
+use Rattle.b3_engine.proofs.TaskLemmas.{tasks_script-operands}
 use Rattle.b3_check.proofs.sum.sum_names.Goals as goal
 
 pub returns-in_err-mode-clause-run : goal.returns-in_err-mode-clause-run

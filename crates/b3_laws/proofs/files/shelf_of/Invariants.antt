@@ -1,5 +1,5 @@
 use Rattle.std.proofs.Common.{◌≡◌, ℕ, List, drop}
-use Rattle.b3_check.specs.MemoryShelves.{shelf_contents}
+use Rattle.b3_io.specs.MemoryShelves.{shelf_contents}
 use Rattle.b3_laws.specs.Files.{content_of}
 use Rattle.b3_laws.proofs.files.shelf_of.Given as goal
 

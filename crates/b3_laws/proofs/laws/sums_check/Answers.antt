@@ -1,7 +1,7 @@
 use Rattle.std.proofs.Common.{◌∙◌, List, Some, ap, get_or, map, string_bytes, subst, ℕ}
-use Rattle.b3_check.specs.Contents.{Contents}
-use Rattle.b3_check.specs.MemoryShelves.{Puts, shelf_contents}
-use Rattle.b3_check.specs.Scripts.{Report}
+use Rattle.b3_io.specs.Contents.{Contents}
+use Rattle.b3_io.specs.MemoryShelves.{Puts, shelf_contents}
+use Rattle.b3_io.specs.Scripts.{Report}
 use Rattle.b3_laws.specs.Files.{known}
 use Rattle.b3_laws.proofs.There.{IsThere-known, Puts-other, Puts-same, map-known}
 use Rattle.b3_laws.proofs.laws.sums_check.Goals as goal

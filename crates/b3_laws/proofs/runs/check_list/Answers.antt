@@ -1,7 +1,7 @@
 use Rattle.std.proofs.Common.{refl, string_bytes}
 use Rattle.b3_check.specs.Laws.{oks_of}
-use Rattle.b3_check.specs.MemoryShelves.{shelf_contents}
-use Rattle.b3_check.specs.declared.options.Form.TheVariants.{Named}
+use Rattle.b3_io.specs.MemoryShelves.{shelf_contents}
+use Rattle.b3_io.specs.declared.options.Form.TheVariants.{Named}
 use Rattle.b3_laws.proofs.There.{report_of-written}
 use Rattle.b3_laws.proofs.runs.check_list.Goals as goal
 

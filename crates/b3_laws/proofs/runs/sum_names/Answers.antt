@@ -1,9 +1,9 @@
 use Rattle.std.proofs.Common.{◌∙◌, ap, map, refl, string_bytes, sym}
 use Rattle.b3_check.specs.Laws.{File, sums_of}
-use Rattle.b3_check.specs.MemoryShelves.{shelf_contents}
-use Rattle.b3_check.specs.Operands.Operand.{Text}
-use Rattle.b3_check.specs.declared.options.Form.TheVariants.{Named}
-use Rattle.b3_check.proofs.OperandLemmas.{map-Text}
+use Rattle.b3_io.specs.MemoryShelves.{shelf_contents}
+use Rattle.b3_io.specs.Operands.Operand.{Text}
+use Rattle.b3_io.specs.declared.options.Form.TheVariants.{Named}
+use Rattle.b3_io.proofs.OperandLemmas.{map-Text}
 use Rattle.b3_laws.proofs.There.{report_of-written}
 use Rattle.b3_laws.proofs.runs.sum_names.Goals as goal
 

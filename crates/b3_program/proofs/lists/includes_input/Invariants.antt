@@ -1,6 +1,6 @@
 use Rattle.std.proofs.Common.{◌≡◌, length}
 use Rattle.std.specs.List.{list_any}
-use Rattle.b3_check.specs.Operands.{operands_left}
+use Rattle.b3_io.specs.Operands.{operands_left}
 use Rattle.b3_program.specs.Lists.{is_input_operand}
 use Rattle.b3_program.proofs.lists.includes_input.Given as goal
 

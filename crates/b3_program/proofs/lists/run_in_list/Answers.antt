@@ -1,5 +1,5 @@
 use Rattle.std.proofs.Common.{Err, arith, inl, inr, refl}
-use Rattle.b3_check.specs.Runs.{io_state}
+use Rattle.b3_io.specs.Runs.{io_state}
 use Rattle.b3_program.specs.Programs.{limits_for, reading_script}
 use Rattle.b3_program.proofs.ListLemmas.{ends_at, list_answered, reading_stopped, refused_at_once}
 use Rattle.b3_program.proofs.lists.run_in_list.Goals as goal

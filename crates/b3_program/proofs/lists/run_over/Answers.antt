@@ -1,5 +1,5 @@
 use Rattle.std.proofs.Common.{◌≡◌, Some, refl, sym}
-use Rattle.b3_check.specs.Operands.{operands_in}
+use Rattle.b3_io.specs.Operands.{operands_in}
 use Rattle.b3_program.specs.Lists.{refusal_over}
 use Rattle.b3_program.specs.Usages.{usage_text}
 use Rattle.b3_program.proofs.lists.run_over.Goals as goal

@@ -1,5 +1,5 @@
 use Rattle.std.proofs.Common.{◌≡◌, ◌∙◌, arith, codes, inr}
-use Rattle.b3_check.specs.Sums.{complaint}
+use Rattle.b3_io.specs.Sums.{complaint}
 use Rattle.b3_program.proofs.ListLemmas.{refused_at_once, unread_not_said, unread_said}
 use Rattle.b3_program.proofs.lists.say_unread.Goals as goal
 

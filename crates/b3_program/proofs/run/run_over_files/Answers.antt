@@ -1,8 +1,8 @@
 use Rattle.std.proofs.Common.{◌≡◌, ◌∙◌, ap, inr, map, refl, string_bytes}
 use Rattle.std.specs.Global.{Global}
 use Rattle.std.specs.Prelude.{String}
-use Rattle.b3_check.specs.Operands.{operands_left}
-use Rattle.b3_check.specs.Operands.Operand.{Text}
+use Rattle.b3_io.specs.Operands.{operands_left}
+use Rattle.b3_io.specs.Operands.Operand.{Text}
 use Rattle.b3_program.specs.Programs.{operands_of}
 use Rattle.b3_program.proofs.ListLemmas.{operands_of-given, refused_at_once}
 use Rattle.b3_program.proofs.run.run_over_files.Goals as goal

@@ -4,9 +4,9 @@ use Rattle.std.specs.Option.{option_map_or}
 use Rattle.std.specs.Prelude.{String, string_bytes}
 use Rattle.std.proofs.lemmas.Bool.{cond_both, eqb-false, ltb-false}
 use Rattle.std.proofs.lemmas.List.{length-map}
-use Rattle.b3_check.specs.Operands.Operand.{Text}
-use Rattle.b3_check.specs.Options.{AreBounds, max_output_len}
-use Rattle.b3_check.specs.declared.options.Form.TheVariants.{Named, Bare, Raw, Tagged}
+use Rattle.b3_io.specs.Operands.Operand.{Text}
+use Rattle.b3_io.specs.Options.{AreBounds, max_output_len}
+use Rattle.b3_io.specs.declared.options.Form.TheVariants.{Named, Bare, Raw, Tagged}
 use Rattle.b3_program.specs.Programs.{CanDo, CanTake, CanTakeNames, operands_of}
 use Rattle.b3_program.specs.Tasks.{check_options, job_for, sum_options, task_for, workers_of}
 use Rattle.b3_program.specs.Usages.{refusal_for}

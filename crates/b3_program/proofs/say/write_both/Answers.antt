@@ -1,5 +1,5 @@
 use Rattle.std.proofs.lemmas.Result.{err_from_is_err_and, on_err_weaker}
-use Rattle.b3_check.proofs.Gains.{Appends-append, GainsBeginning-append, GainsBeginning-longer}
+use Rattle.b3_io.proofs.Gains.{Appends-append, GainsBeginning-append, GainsBeginning-longer}
 use Rattle.b3_program.proofs.say.write_both.Goals as goal
 
 pub returns-in_err-write_all-clause-err : goal.returns-in_err-write_all-clause-err

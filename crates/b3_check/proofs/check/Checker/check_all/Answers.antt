@@ -1,7 +1,7 @@
 use Rattle.std.proofs.Common.{◌∙◌, refl}
 use Rattle.std.proofs.lemmas.Result.{err_from_is_err_and}
-use Rattle.b3_check.specs.Operands.{operand_of}
-use Rattle.b3_check.proofs.CheckLemmas.{lists_more, lists_none, lists_stopped}
+use Rattle.b3_io.specs.Operands.{operand_of}
+use Rattle.b3_io.proofs.CheckLemmas.{lists_more, lists_none, lists_stopped}
 use Rattle.b3_check.proofs.check.Checker.check_all.Goals as goal
 
 pub returns-in_err-one-clause-run : goal.returns-in_err-one-clause-run

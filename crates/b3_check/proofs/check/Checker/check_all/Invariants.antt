@@ -1,7 +1,7 @@
 use Rattle.std.proofs.Common.{◌≡◌, length}
-use Rattle.b3_check.specs.Devices.{loans, io_state_of}
-use Rattle.b3_check.specs.Operands.{operands_left}
-use Rattle.b3_check.proofs.CheckLemmas.{ListsSoFar}
+use Rattle.b3_io.specs.Devices.{loans, io_state_of}
+use Rattle.b3_io.specs.Operands.{operands_left}
+use Rattle.b3_io.proofs.CheckLemmas.{ListsSoFar}
 use Rattle.b3_check.proofs.check.Checker.check_all.Given as goal
 
 -- the lists so far are checked

@@ -1,11 +1,11 @@
 use Rattle.std.proofs.Common.{ℕ, ◌==◌, List, ap, arith, inl, length, refl}
 use Rattle.std.proofs.lemmas.Result.{err_from_is_err_and}
 use Rattle.b3_lines.specs.Lines.{lines_of}
-use Rattle.b3_check.specs.declared.output_range.OutputRange.{OutputRange}
-use Rattle.b3_check.specs.Checks.{list_end_report, list_end_script}
-use Rattle.b3_check.specs.Tallies.{no_tally}
-use Rattle.b3_check.proofs.CheckLemmas.{ran_summed, stopped_summing, stopped_unsummed, tasks_script-lines}
-use Rattle.b3_check.proofs.RunLemmas.{stopped_early_counted}
+use Rattle.b3_io.specs.declared.output_range.OutputRange.{OutputRange}
+use Rattle.b3_io.specs.Checks.{list_end_report, list_end_script}
+use Rattle.b3_io.specs.Tallies.{no_tally}
+use Rattle.b3_io.proofs.CheckLemmas.{ran_summed, stopped_summing, stopped_unsummed, tasks_script-lines}
+use Rattle.b3_io.proofs.RunLemmas.{stopped_early_counted}
 use Rattle.b3_check.proofs.check.Checker.check_lines.Goals as goal
 
 -- a list has no more lines than bytes

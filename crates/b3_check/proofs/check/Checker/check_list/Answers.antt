@@ -1,10 +1,10 @@
 use Rattle.std.proofs.Common.{Ok, ap, arith, inl}
 use Rattle.std.proofs.lemmas.Result.{err_from_is_err_and}
-use Rattle.b3_check.specs.Checks.{lines_script, unread_list_report}
-use Rattle.b3_check.specs.Options.{check_limits}
-use Rattle.b3_check.specs.Scripts.{Report}
-use Rattle.b3_check.proofs.CheckLemmas.{runs_answered}
-use Rattle.b3_check.proofs.RunLemmas.{ran_answered, ran_said, stopped_answered, stopped_at_once, stopped_said, stopped_unanswered}
+use Rattle.b3_io.specs.Checks.{lines_script, unread_list_report}
+use Rattle.b3_io.specs.Options.{check_limits}
+use Rattle.b3_io.specs.Scripts.{Report}
+use Rattle.b3_io.proofs.CheckLemmas.{runs_answered}
+use Rattle.b3_io.proofs.RunLemmas.{ran_answered, ran_said, stopped_answered, stopped_at_once, stopped_said, stopped_unanswered}
 use Rattle.b3_check.proofs.check.Checker.check_list.Goals as goal
 
 pub returns-in_err-read_list-clause-run : goal.returns-in_err-read_list-clause-run

@@ -1,8 +1,8 @@
 use Rattle.std.proofs.Common.{ap, inl}
 use Rattle.std.proofs.lemmas.Result.{err_from_is_err_and}
-use Rattle.b3_check.specs.Checks.{unnamed_list_report}
-use Rattle.b3_check.specs.Scripts.{Report}
-use Rattle.b3_check.proofs.RunLemmas.{ran_said, stopped_at_once, stopped_said}
+use Rattle.b3_io.specs.Checks.{unnamed_list_report}
+use Rattle.b3_io.specs.Scripts.{Report}
+use Rattle.b3_io.proofs.RunLemmas.{ran_said, stopped_at_once, stopped_said}
 use Rattle.b3_check.proofs.check.Checker.check_operand.Goals as goal
 
 pub returns-in-Text-clause-run : goal.returns-in-Text-clause-run

@@ -1,7 +1,7 @@
 use Rattle.std.proofs.Common.{◌≡◌, ◌∙◌, [], ◌++◌, refl}
 use Rattle.std.proofs.lemmas.List.{append-nil}
-use Rattle.b3_check.specs.Faults.{fault_text}
-use Rattle.b3_check.specs.declared.fault.RunFault.TheVariants as RunFault
+use Rattle.b3_io.specs.Faults.{fault_text}
+use Rattle.b3_io.specs.declared.fault.RunFault.TheVariants as RunFault
 use Rattle.b3_program.proofs.stop.Stop.say.Goals as goal
 
 pub returns-in-NotText : goal.returns-in-NotText

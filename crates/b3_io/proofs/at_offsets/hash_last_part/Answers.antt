@@ -1,0 +1,29 @@
+use Rattle.std.proofs.Common.{◌≢◌, ◌-◌, ◌%◌, ◌/◌, ◌++◌, ◌∙◌, ap, sym, arith, rules}
+use Rattle.b3_core.specs.Tree.{top}
+use Rattle.b3_core.specs.declared.modes.Mode.{Mode}
+use Rattle.b3_hash.specs.Hashers.{length_of}
+use Rattle.b3_hash.proofs.Standing.{length-StandsFor}
+use Rattle.b3_io.specs.Parts.{IsPartOf}
+use Rattle.b3_io.specs.declared.at_offsets.TheConstants.{REGION_LEN, REGION_LEVEL}
+use Rattle.b3_io.proofs.PartLemmas.{ended}
+use Rattle.b3_io.proofs.at_offsets.hash_last_part.Goals as goal
+
+pub returns : goal.returns
+returns g c =
+    let shelf = g.S.Shelf in
+    let hasher = c.args.hasher.now in
+    let held = c.requires.hashed in
+    let part : IsPartOf (shelf.told c.args.shelf.now) (shelf.left c.args.shelf.now) c.args.mode.now (length_of hasher)
+    (c.args.len - length_of hasher) c.in_ok-last.last = search rules in
+    let size = length-StandsFor hasher held.before held.stands in
+    let some : length_of hasher ≢ c.args.len = search rules in
+    record {
+      content = held.before ++ part.bytes;
+      whole = λ told. ended held part told (omega (arith, c.requires.whole told, c.requires.reached));
+      output = c.finish_with.ensures REGION_LEVEL held.before part.bytes held.stands (omega arith)
+          (ap (λ n. n % REGION_LEN) size ∙ held.aligned)
+          (omega (arith, part.len_is, c.requires.last))
+          (λ _. omega (arith, part.len_is, some, c.requires.reached))
+          (part.node_is ∙ (λ i. top (sym held.mode_is i) (sym size i / 1024) part.bytes))
+          ∙ ap (λ (mode : Mode). record { node = top mode 0 (held.before ++ part.bytes); place = 0 }) held.mode_is;
+    }
