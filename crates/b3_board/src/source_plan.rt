@@ -1,7 +1,7 @@
 // A part of a source, cut into spans: workers read the spans that they claim by themselves.
 
 ghost use Rattle.std.specs.Prelude.{◌≡◌, ℕ, ◌+◌, ◌-◌, ◌*◌, ◌<◌, ◌≤◌, ◌^◌, min, List, All, length, Some, IfSome, IsOk};
-ghost use Rattle.b3_core.specs.Tree.{chunks};
+ghost use Rattle.b3_core.specs.Tree.{IsLeft, chunks};
 ghost use Rattle.b3_board.specs.Plans.{IsCutting};
 ghost use Rattle.b3_board.specs.Spans.{chunks_in};
 ghost use Rattle.b3_board.specs.Regions.{region};
@@ -84,15 +84,7 @@ impl<'s, S: Source> SourcePlan<'s, S> {
         if self.span_len(span) <= buffer.len() {
             return self.read_at_once(span, buffer);
         }
-        let count = left(span.count);
-        let front = Span {
-            first: span.first,
-            count,
-        };
-        let back = Span {
-            first: span.first + count,
-            count: span.count - count,
-        };
+        let (front, back) = halves(span);
         let Ok(front) = self.read::<L>(front, buffer) else {
             return Err(Unread::new(span));
         };
@@ -129,6 +121,27 @@ impl<'s, S: Source> SourcePlan<'s, S> {
         }
         Ok(OwnDone::of_bytes(buffer, &self.mode, self.first, span))
     }
+}
+
+// The spans of the two children of a subtree of more than one chunk (BLAKE3 (2020), 2.1).
+fn halves(span: Span) -> (Span, Span)
+    requires more { 1 < span.count }
+    requires in_number { span.first + span.count < 2 ^ 64 }
+    ensures front { result.0.first ≡ span.first }
+    ensures left { IsLeft span.count result.0.count }
+    ensures back { result.1.first ≡ span.first + result.0.count }
+    ensures all { result.0.count + result.1.count ≡ span.count }
+{
+    let count = left(span.count);
+    let front = Span {
+        first: span.first,
+        count,
+    };
+    let back = Span {
+        first: span.first + count,
+        count: span.count - count,
+    };
+    (front, back)
 }
 
 impl<'s, S: Source, L: SourceLedger> SpanHasher<InSource<L>, L> for SourcePlan<'s, S> {

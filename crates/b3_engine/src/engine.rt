@@ -1,4 +1,4 @@
-//! The loop that both engines go through.
+//! The loop over the items of a run: sums and checks go through it.
 
 ghost use Rattle.std.specs.Prelude.{◌≡◌, ℕ, ◌+◌, ◌*◌, ◌-◌, ◌^◌, ◌<◌, ◌≤◌, ◌∷◌, List, true, length, vec_len, IfErr, IfOk, IfSome, OnOk};
 ghost use Rattle.std.specs.Arc.{arc_value};

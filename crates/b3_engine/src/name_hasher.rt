@@ -56,7 +56,6 @@ impl NameHasher {
     }
 
     // What is to be said of a name.
-    #[tactic(auto, using(crate::proofs::CrewLemmas::says_content, crate::proofs::CrewLemmas::says_lacking))]
     fn finding_for<S: Shelf>(
         &mut self,
         shelf: &S,
