@@ -4,8 +4,8 @@ from dataclasses import dataclass
 
 # Chains of calls from `main` down: each function calls the next.
 TO_CALL = (("b3sum/src/main.rt", "main"), ("b3_call/src/call.rt", "call_with"))
-TO_SHELF = (*TO_CALL, ("b3_program/src/files.rt", "FileShelf::new"))
-TO_OUTPUT = (*TO_CALL, ("b3_program/src/outputs.rt", "OutputSink::new"))
+TO_SHELF = (*TO_CALL, ("b3_files/src/files.rt", "FileShelf::new"))
+TO_OUTPUT = (*TO_CALL, ("b3_files/src/outputs.rt", "OutputSink::new"))
 TO_TASK = (*TO_CALL, ("b3_call/src/call.rt", "run_call"), ("b3_program/src/run.rt", "run_words"),
            ("b3_program/src/run.rt", "run_task"))
 TO_RUN = (*TO_TASK, ("b3_program/src/run.rt", "run_over_files"), ("b3_program/src/jobs.rt", "run_job"),
@@ -86,13 +86,13 @@ LAWS = (
     Law("Which contents these are",
         "The program's shelf tells what its disk and its input tell, and its outputs tell what their writers hold, "
         "wrapped for progress or not.",
-        (Ghosts("b3_program/src/files.rt", "Shelf for FileShelf", ("told", "is_sure")),
-         Clauses("b3_program/src/files.rt", "FileShelf::new", ("disk", "input")),
+        (Ghosts("b3_files/src/files.rt", "Shelf for FileShelf", ("told", "is_sure")),
+         Clauses("b3_files/src/files.rt", "FileShelf::new", ("disk", "input")),
          Ghosts("b3_program/src/counting_shelf.rt", "Shelf for CountingShelf", ("told", "is_sure")),
          Clauses("b3_program/src/counting_shelf.rt", "CountingShelf::new"),
-         Ghosts("b3_program/src/outputs.rt", "Sink for OutputSink", ("held",)),
-         Clauses("b3_program/src/outputs.rt", "OutputSink::new", ("writer",)),
-         Clauses("b3_program/src/outputs.rt", "OutputSink::into_writer"),
+         Ghosts("b3_files/src/outputs.rt", "Sink for OutputSink", ("held",)),
+         Clauses("b3_files/src/outputs.rt", "OutputSink::new", ("writer",)),
+         Clauses("b3_files/src/outputs.rt", "OutputSink::into_writer"),
          Ghosts("b3_program/src/clearing_sink.rt", "Sink for ClearingSink", ("held",)),
          Clauses("b3_program/src/clearing_sink.rt", "ClearingSink::new"),
          Clauses("b3_program/src/clearing_sink.rt", "ClearingSink::into_inner")), (TO_SHELF, TO_OUTPUT)),

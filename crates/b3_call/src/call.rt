@@ -2,16 +2,14 @@
 
 ghost use Rattle.std.specs.Prelude.{◌^◌, ◌<◌, ◌&&◌, IfErr, IfOk};
 ghost use Rattle.b3_io.specs.Runs.{io_state};
-ghost use Rattle.b3_program.specs.Files.{contents_with, rest_of, told_if};
+ghost use Rattle.b3_files.specs.Files.{contents_with, rest_of, told_if};
 ghost use Rattle.b3_call.specs.Calls.{AreWordsOf, CallsWith, EndsCall, IsStopOf, texts_in};
 
 use crate::words::read_words;
 use b3_board::Gate;
 use b3_check::{Shelf, Sink};
-use b3_program::{
-    ClearingSink, CountingShelf, Disk, FileShelf, Input, OutputSink, Progress, Stop, Words,
-    run_words,
-};
+use b3_files::{Disk, FileShelf, Input, OutputSink};
+use b3_program::{ClearingSink, CountingShelf, Progress, Stop, Words, run_words};
 use std::alloc::Global;
 use std::io::{self, IsTerminal, Write};
 use std::rt::{Clock, Stderr, Stdout};

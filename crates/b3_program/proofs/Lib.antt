@@ -1,7 +1,5 @@
 -- what words that are not refused say
 pub mod Settled
--- Buffers that are filled read by read.
-pub mod Filling
 -- what a task that is done writes, over a shelf that tells its contents
 pub mod RightLemmas
 -- the operands of files and of a list of names, and what is done while that is read

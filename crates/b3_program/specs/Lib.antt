@@ -1,7 +1,3 @@
-pub mod Disks
-pub mod Files
-pub mod Sources
-pub mod MemoryDisks
 pub mod Usages
 pub mod Tasks
 pub mod Said

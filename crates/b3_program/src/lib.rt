@@ -1,24 +1,15 @@
-//! What a call of the program does, from its words on: what they ask for, the run over real files and streams, and the
-//! status. How the words are read is not known here.
+//! What a call of the program does, from its words on: what they ask for, the run over a shelf and two outputs, the line of
+//! progress, and the status. How the words are read is not known here, nor where the bytes come from.
 #![tactic(auto)]
 
 mod clearing_sink;
 mod counting_shelf;
-mod disk;
-mod files;
-mod input;
 mod jobs;
 mod lists;
-mod lookup;
-mod memory_disk;
-mod outputs;
 mod progress;
 mod progress_text;
-mod real_disk;
-mod retrying;
 mod run;
 mod say;
-mod source;
 mod stop;
 mod task;
 mod usage;
@@ -26,13 +17,8 @@ mod words;
 
 pub use clearing_sink::ClearingSink;
 pub use counting_shelf::CountingShelf;
-pub use disk::{Disk, DiskFile, FileKind, Input, Stream};
-pub use files::FileShelf;
-pub use memory_disk::{MemoryDisk, MemoryFile, NamedFile};
-pub use outputs::OutputSink;
 pub use progress::Progress;
 pub use progress_text::{Counts, progress_line};
-pub use real_disk::{INPUT_PATHS, InputPaths, RealDisk, RealFile, RealInput};
 pub use run::run_words;
 pub use stop::Stop;
 pub use task::{Job, Names, Task, settle};

@@ -4,13 +4,13 @@
 ghost use Rattle.std.specs.Prelude.{◌≡◌, ◌^◌, ◌<◌, [], ◌∷◌, false, string_bytes, IfOk};
 ghost use Rattle.b3_io.specs.MemorySinks.{sink_bytes};
 ghost use Rattle.b3_io.specs.Sums.{is_bad_name};
-ghost use Rattle.b3_program.specs.Files.{contents_with};
-ghost use Rattle.b3_program.specs.MemoryDisks.{content_among};
+ghost use Rattle.b3_files.specs.Files.{contents_with};
+ghost use Rattle.b3_files.specs.MemoryDisks.{content_among};
 ghost use Rattle.b3_program_tests.specs.InMemory.{IsSummed};
 
 use b3_board::OpenGate;
 use b3_check::{Form, KeyChoice, MemorySink, Operands, RunFault, Sink, SumOptions, Tally, run_sum};
-use b3_program::{FileShelf, MemoryDisk, MemoryFile, NamedFile};
+use b3_files::{FileShelf, MemoryDisk, MemoryFile, NamedFile};
 use std::alloc::{AllocError, Global};
 use std::sync::Wait;
 use std::thread::Threads;

@@ -6,7 +6,7 @@
 
 use b3_board::OpenGate;
 use b3_call::{arguments, call_with};
-use b3_program::{INPUT_PATHS, RealDisk, RealInput};
+use b3_files::{INPUT_PATHS, RealDisk, RealInput};
 use std::process::ExitCode;
 
 fn main(rt: HostRuntime) -> ExitCode {

@@ -4,7 +4,7 @@ ghost use Rattle.std.specs.Prelude.{◌≡◌, IfOk};
 
 use crate::tests::calls::assert_call;
 use b3_check::{MemoryShelf, Shelf};
-use b3_program::{FileShelf, MemoryDisk, MemoryFile, NamedFile};
+use b3_files::{FileShelf, MemoryDisk, MemoryFile, NamedFile};
 use std::alloc::{AllocError, Global};
 
 const LINE: &str = "af1349b9f5f9a1a6a0404dea36dcc9499bcb25c9adc112b7cc9a93cae41f3262";

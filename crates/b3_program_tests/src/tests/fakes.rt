@@ -3,7 +3,7 @@
 ghost use Rattle.std.specs.Prelude.{◌≡◌, true, is_err};
 ghost use Rattle.std.specs.Io.{ReadsAtMost};
 
-use b3_program::NamedFile;
+use b3_files::NamedFile;
 use std::alloc::Allocator;
 use std::fs::{FileTimes, Metadata, OpenFile, OpenOptions, Permissions};
 use std::io::{self, ErrorKind, Read, Seek, SeekFrom, Write};

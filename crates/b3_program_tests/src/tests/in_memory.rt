@@ -5,7 +5,7 @@ use super::steps::Asked;
 use super::steps::Step::{HashWhole, Lacks};
 use crate::in_memory::sum_one;
 use b3_check::{MemorySink, NoContent};
-use b3_program::{FileShelf, MemoryDisk, MemoryFile, NamedFile};
+use b3_files::{FileShelf, MemoryDisk, MemoryFile, NamedFile};
 use std::test::Fail;
 
 const FILES: [NamedFile<'static>; 2] = [

@@ -4,7 +4,7 @@ use super::fakes::{Reads, SharedInput, System};
 use super::steps::Step::{Begin, LenHint, Read, ReadAt, Rest};
 use super::steps::{Step, assert_input, assert_real};
 use b3_check::NoContent;
-use b3_program::{INPUT_PATHS, InputPaths, NamedFile};
+use b3_files::{INPUT_PATHS, InputPaths, NamedFile};
 use std::process::Abort;
 use std::sync::atomic::{AtomicU64, Ordering};
 

@@ -8,7 +8,7 @@ use b3_board::OpenGate;
 use b3_check::{
     CheckOptions, Form, KeyChoice, Operands, Shelf, Sink, SumOptions, Tally, run_check, run_sum,
 };
-use b3_program::{FileShelf, MemoryDisk, MemoryFile, NamedFile, OutputSink};
+use b3_files::{FileShelf, MemoryDisk, MemoryFile, NamedFile, OutputSink};
 use std::alloc::{AllocError, Global};
 use std::cell::RefCell;
 use std::io::{self, ErrorKind, Write};

@@ -1,7 +1,7 @@
 // The sinks over writers.
 
 use b3_check::{Sink, SinkFailed};
-use b3_program::OutputSink;
+use b3_files::OutputSink;
 use std::io::{self, ErrorKind, Write};
 
 // Is interrupted so often before each call that it lets through.

@@ -4,7 +4,7 @@ ghost use Rattle.std.specs.Prelude.{◌<◌};
 
 use super::files::counted;
 use b3_check::Shelf;
-use b3_program::{FileShelf, Input, MemoryDisk, MemoryFile, Stream};
+use b3_files::{FileShelf, Input, MemoryDisk, MemoryFile, Stream};
 use std::alloc::{AllocError, Global};
 use std::io::{self, ErrorKind};
 use std::process::Abort;

@@ -3,10 +3,8 @@
 use super::files::FOUR;
 use super::steps::{Asked, Step};
 use b3_check::{MemoryShelf, NoContent, Sink};
-use b3_program::{
-    ClearingSink, CountingShelf, Counts, FileShelf, MemoryDisk, MemoryFile, NamedFile, OutputSink,
-    Progress, progress_line,
-};
+use b3_files::{FileShelf, MemoryDisk, MemoryFile, NamedFile, OutputSink};
+use b3_program::{ClearingSink, CountingShelf, Counts, Progress, progress_line};
 use std::cell::{Cell, RefCell};
 use std::io::{self, ErrorKind, Write};
 use std::rt::Clock;

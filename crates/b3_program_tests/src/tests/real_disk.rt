@@ -1,7 +1,7 @@
 // The real disk and the real input: each call forwards to the one file that it names.
 
 use super::files::{OWN_PROGRAM, own_program};
-use b3_program::{Disk, DiskFile, FileKind, Input, InputPaths, RealDisk, RealInput, Stream};
+use b3_files::{Disk, DiskFile, FileKind, Input, InputPaths, RealDisk, RealInput, Stream};
 use std::alloc::{AllocError, Allocator};
 use std::fs::File;
 use std::io::{ErrorKind, Read, pipe};

@@ -3,9 +3,8 @@
 ghost use Rattle.std.specs.Prelude.{◌≡◌, ◌^◌, ◌<◌};
 
 use b3_check::{Shelf, Sink, write_all};
-use b3_program::{
-    ClearingSink, CountingShelf, FileShelf, MemoryDisk, MemoryFile, NamedFile, OutputSink, Progress,
-};
+use b3_files::{FileShelf, MemoryDisk, MemoryFile, NamedFile, OutputSink};
+use b3_program::{ClearingSink, CountingShelf, Progress};
 use std::io::{self, ErrorKind, Write};
 use std::process::Abort;
 use std::rt::Clock;

@@ -6,7 +6,7 @@ use super::inputs::{INPUT_AT_3, NOT_SHOWN, SHOWN};
 use super::steps::Step::{Begin, HashWhole, Lacks, Read, ReadAt};
 use super::steps::{Step, assert_files, assert_input};
 use b3_check::{CannotRead, NoContent};
-use b3_program::NamedFile;
+use b3_files::NamedFile;
 use std::process::Abort;
 use std::sync::atomic::AtomicU64;
 use std::test::Fail;

@@ -1,0 +1,2 @@
+-- Buffers that are filled read by read.
+pub mod Filling

@@ -1,0 +1,4 @@
+pub mod Disks
+pub mod Files
+pub mod Sources
+pub mod MemoryDisks

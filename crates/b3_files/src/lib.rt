@@ -1,0 +1,18 @@
+//! What a run reads and writes outside memory: a shelf of the files of a disk and of standard input, and sinks over writers.
+#![tactic(auto)]
+
+mod disk;
+mod files;
+mod input;
+mod lookup;
+mod memory_disk;
+mod outputs;
+mod real_disk;
+mod retrying;
+mod source;
+
+pub use disk::{Disk, DiskFile, FileKind, Input, Stream};
+pub use files::FileShelf;
+pub use memory_disk::{MemoryDisk, MemoryFile, NamedFile};
+pub use outputs::OutputSink;
+pub use real_disk::{INPUT_PATHS, InputPaths, RealDisk, RealFile, RealInput};
