@@ -3,6 +3,7 @@
 ghost use Rattle.std.specs.Prelude.{◌≡◌, IfOk, vec_len};
 ghost use Rattle.b3_board.specs.Plans.{IsPlanOf};
 
+mod asserts;
 mod claims;
 mod hostile;
 mod memory;
@@ -14,6 +15,7 @@ mod source;
 mod workers;
 
 use crate::tests::memory::by_grain;
+use asserts::{assert_same, assert_same_for, assert_that};
 use b3_board::*;
 use b3_core::{Mode, Node, Span, top};
 use std::alloc::{AllocError, Global};
@@ -45,7 +47,7 @@ fn span(first: u64, count: u64) -> Span {
 
 // The top of the whole input.
 fn root_of(rt: &impl Abort, input: &[u8]) -> Node {
-    assert!(rt; input.len() <= 1 << 30);
+    assert_that(rt, input.len() <= 1 << 30);
     top(&Mode::hash(), 0, input)
 }
 
@@ -88,15 +90,15 @@ fn counts<'a, L: InputLedger>(board: &MemoryBoard<'a, L>, share: &Share<L>) -> (
 // The root is the top of the whole input, kept by the board.
 fn assert_root<'a, L: InputLedger>(rt: &impl Abort, board: &MemoryBoard<'a, L>, input: &[u8]) {
     let root = board.root().expect(rt, "a root");
-    assert!(rt; root.kept());
-    assert_eq!(rt; root.node(), root_of(rt, input));
+    assert_that(rt, root.kept());
+    assert_same(rt, root.node(), root_of(rt, input));
 }
 
 // The first bytes of a root's output.
 fn assert_digest(rt: &impl Abort, root: &Root, want: &[u8; 32]) {
     let block = root.node().block(0);
     let (digest, _) = block.split_at(32);
-    assert_eq!(rt; digest, want.as_slice());
+    assert_same(rt, digest, want.as_slice());
 }
 
 fn assert_pieces<'a, L: InputLedger>(
@@ -106,9 +108,9 @@ fn assert_pieces<'a, L: InputLedger>(
 ) {
     for i in 0..want.len() {
         let (first, count) = want[i];
-        assert_eq!(rt; board.piece(i), Some(span(first, count)), "piece {i}");
+        assert_same_for(rt, i, board.piece(i), Some(span(first, count)));
     }
-    assert_eq!(rt; board.piece(want.len()), None);
+    assert_same(rt, board.piece(want.len()), None);
 }
 
 // What a board shows after each deposit: the span's number, the pieces, and the deposited and the waiting
@@ -123,10 +125,10 @@ fn assert_step<'a, L: InputLedger>(
     step: &Step,
 ) {
     let (span, pieces, deposited, waiting) = *step;
-    assert!(rt; board.root().is_none());
-    assert!(rt; deposit(rt, board, share, plan, span).is_ok());
+    assert_that(rt, board.root().is_none());
+    assert_that(rt, deposit(rt, board, share, plan, span).is_ok());
     assert_pieces(rt, board, pieces);
-    assert_eq!(rt; counts(board, share), (deposited, waiting, deposited));
+    assert_same(rt, counts(board, share), (deposited, waiting, deposited));
 }
 
 fn steps_on<'a, L: InputLedger>(
@@ -142,13 +144,13 @@ fn steps_on<'a, L: InputLedger>(
     requires own { IsPlanOf L.input L.mode L.first plan.now }
 {
     let (mut board, mut share) = open_board::<L>(alloc, plan, blank)?;
-    assert!(rt; board.is_over(plan) && board.deposited() == 0);
-    assert_eq!(rt; board.open_spans(), plan.len());
+    assert_that(rt, board.is_over(plan) && board.deposited() == 0);
+    assert_same(rt, board.open_spans(), plan.len());
     for step in steps {
         assert_step(rt, &mut board, &mut share, plan, step);
     }
     assert_root(rt, &board, plan.input());
-    assert_eq!(rt; board.open_span(0), None);
+    assert_same(rt, board.open_span(0), None);
     Ok(())
 }
 
@@ -178,7 +180,7 @@ fn deposit_in<'a, L: InputLedger>(
     order: &[usize],
 ) {
     for i in order {
-        assert!(rt; deposit(rt, board, share, plan, *i).is_ok());
+        assert_that(rt, deposit(rt, board, share, plan, *i).is_ok());
     }
 }
 
@@ -198,11 +200,11 @@ fn order_on<'a, L: InputLedger>(
 {
     let (mut board, mut share) = open_board::<L>(alloc, plan, blank)?;
     deposit_in(rt, &mut board, &mut share, plan, order);
-    assert_eq!(rt; share.chunks(), board.deposited());
+    assert_same(rt, share.chunks(), board.deposited());
     let want = root_of(rt, plan.input());
     for _ in 0..times {
-        assert_eq!(rt; board.root().expect(rt, "a root").node(), want);
-        assert_eq!(rt; sweep(&mut board, &mut share), 0);
+        assert_same(rt, board.root().expect(rt, "a root").node(), want);
+        assert_same(rt, sweep(&mut board, &mut share), 0);
     }
     Ok(())
 }

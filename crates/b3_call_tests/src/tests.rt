@@ -1,4 +1,5 @@
 mod arguments;
+mod asserts;
 mod calls;
 mod lists;
 mod progress;

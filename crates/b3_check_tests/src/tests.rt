@@ -1,5 +1,6 @@
 // What runs write and count, over devices in memory and devices that take few bytes a call.
 
+mod asserts;
 mod at_once;
 mod checks;
 mod contents;
@@ -17,6 +18,7 @@ mod rendezvous;
 mod strictness;
 mod sums;
 
+use asserts::assert_same;
 use b3_check::{CheckOptions, Form, KeyChoice, RunFault, SumOptions, Tally};
 use std::alloc::Global;
 use std::test::Fail;
@@ -102,9 +104,9 @@ fn each_fault_has_its_text_and_number(rt: HostRuntime) -> Result<(), Fail> {
         (RunFault::EndlessInput, 5, "b3sum: endless input"),
     ];
     for (fault, number, text) in table {
-        assert_eq!(rt; fault as u8, number);
-        assert_eq!(rt; fault.text(), text);
-        assert_eq!(rt; fault.to_string(rt.alloc())?.as_str(), text);
+        assert_same(&rt, fault as u8, number);
+        assert_same(&rt, fault.text(), text);
+        assert_same(&rt, fault.to_string(rt.alloc())?.as_str(), text);
     }
     Ok(())
 }

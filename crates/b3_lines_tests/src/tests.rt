@@ -1,11 +1,13 @@
 // Check lines by examples. A function of these tests holds few values that own memory where it may return: each return
 // lets them all go, and each of these steps is proved.
 
+mod asserts;
 mod digits;
 mod memory;
 mod read;
 mod written;
 
+use asserts::{assert_same, assert_same_for, assert_that};
 use b3_lines::{Line, LineFault, Lines, first_piece, lines, read_line};
 use hex::FromHex;
 use std::alloc::{AllocError, Global};
@@ -29,18 +31,18 @@ fn line_of(alloc: Global, before: &[u8], after: &[u8]) -> Result<Vec<u8>, AllocE
 
 /// Asserts that a line says the digest of no bytes and this name, shown so.
 fn assert_says(rt: &impl Abort, line: &Line, name: &str, shown: &str) {
-    assert!(rt; line.digest == digest(rt));
-    assert_eq!(rt; line.name.as_str(), name);
-    assert_eq!(rt; line.shown.as_str(), shown);
+    assert_that(rt, line.digest == digest(rt));
+    assert_same(rt, line.name.as_str(), name);
+    assert_same(rt, line.shown.as_str(), shown);
 }
 
 /// Asserts that a line or a name is refused by this fault.
 fn assert_fault(rt: &impl Abort, found: Option<LineFault>, fault: LineFault, at: &[u8]) {
-    assert_eq!(rt; found, Some(fault), "at {at:?}");
+    assert_same_for(rt, at, found, Some(fault));
 }
 
 fn assert_next(rt: &impl Abort, left: &mut Lines<'_>, place: Option<(usize, usize)>, text: &[u8]) {
-    assert_eq!(rt; left.next(), place, "in {text:?}");
+    assert_same_for(rt, text, left.next(), place);
 }
 
 /// Asserts that the lines of a text are at these places, and that there is none after them, also when asked again.
@@ -64,7 +66,7 @@ fn first_pieces(rt: HostRuntime) {
         (b"\0\0", Some((b"", b"\0"))),
     ];
     for (text, parts) in &rows {
-        assert_eq!(rt; first_piece(text, 0), *parts, "of {text:?}");
+        assert_same_for(&rt, text, first_piece(text, 0), *parts);
     }
 }
 
@@ -93,9 +95,9 @@ fn refusals_have_their_numbers_and_texts(rt: HostRuntime) -> Result<(), Fail> {
         (9, LineFault::Memory, "out of memory"),
     ];
     for (number, fault, text) in rows {
-        assert_eq!(rt; fault as u8, number);
-        assert_eq!(rt; fault.reason(), text);
-        assert_eq!(rt; fault.to_string(rt.alloc())?.as_str(), text);
+        assert_same(&rt, fault as u8, number);
+        assert_same(&rt, fault.reason(), text);
+        assert_same(&rt, fault.to_string(rt.alloc())?.as_str(), text);
     }
     Ok(())
 }

@@ -1,5 +1,6 @@
 // The shelf of real files, what it forwards to, the sinks over writers, and files in memory.
 
+mod asserts;
 mod fakes;
 mod files;
 mod in_memory;

@@ -3,6 +3,7 @@
 ghost use Rattle.std.specs.Prelude.{◌≡◌, ◌<◌, ◌≤◌};
 ghost use Rattle.b3_board.specs.Seats.{HasSeenAll, IsSeatOf};
 
+use super::asserts::{assert_same, assert_that_for};
 use super::memory::last_growth;
 use arrayvec::ArrayVec;
 use b3_board::{BoardFault, Claims, Seat};
@@ -36,12 +37,12 @@ fn assert_claim(
     ensures own { IsSeatOf claims.now seat.new }
     ensures parts { seat.new.view.parts ≡ seat.old.view.parts }
 {
-    assert_eq!(rt; try_claim(claims, seat, i), is_taken);
-    assert_eq!(rt; seat.claimed(), claimed);
+    assert_same(rt, try_claim(claims, seat, i), is_taken);
+    assert_same(rt, seat.claimed(), claimed);
 }
 
 fn assert_seat(rt: &impl Abort, seat: &Seat, parts: u32, claimed: &[u32]) {
-    assert_eq!(rt; (seat.parts(), seat.claimed()), (parts, claimed));
+    assert_same(rt, (seat.parts(), seat.claimed()), (parts, claimed));
 }
 
 #[test]
@@ -50,7 +51,11 @@ fn three_seats_claim_in_turn(rt: HostRuntime) -> Result<(), Fail> {
     assert_seat(&rt, &first, 128, &[]);
     let mut second = claims.split(&mut first);
     let mut third = claims.split(&mut first);
-    assert_eq!(&rt; (first.parts(), second.parts(), third.parts()), (126, 1, 1));
+    assert_same(
+        &rt,
+        (first.parts(), second.parts(), third.parts()),
+        (126, 1, 1),
+    );
     assert_claim(&rt, &claims, &mut second, 2, true, &[2]);
     assert_claim(&rt, &claims, &mut second, 2, false, &[2]);
     assert_claim(&rt, &claims, &mut third, 2, false, &[]);
@@ -59,7 +64,7 @@ fn three_seats_claim_in_turn(rt: HostRuntime) -> Result<(), Fail> {
     claims.join(&mut first, second);
     claims.join(&mut first, third);
     assert_seat(&rt, &first, 128, &[1, 2, 0]);
-    assert_eq!(&rt; claims.close(first).as_slice(), [1u32, 2, 0].as_slice());
+    assert_same(&rt, claims.close(first).as_slice(), [1u32, 2, 0].as_slice());
     Ok(())
 }
 
@@ -92,9 +97,9 @@ fn race(rt: &impl Threads, alloc: Global, n: usize) -> Result<ArrayVec<u32, 1024
 
 fn assert_all_once(rt: &impl Abort, mut list: ArrayVec<u32, 1024>, n: usize) {
     list.as_mut_slice().sort_unstable();
-    assert_eq!(rt; list.len(), n);
+    assert_same(rt, list.len(), n);
     for (i, x) in list.iter().enumerate() {
-        assert_eq!(rt; *x as usize, i);
+        assert_same(rt, *x as usize, i);
     }
 }
 
@@ -111,11 +116,12 @@ fn claims_race(rt: HostRuntime) -> Result<(), Fail> {
 #[test]
 fn a_refused_growth_makes_no_claims(rt: HostRuntime) {
     match Claims::new(rt.alloc(), 1024) {
-        Ok((_claims, first)) => assert_eq!(&rt; first.parts(), 128),
-        Err(fault) => assert_eq!(&rt; fault, BoardFault::Memory),
+        Ok((_claims, first)) => assert_same(&rt, first.parts(), 128),
+        Err(fault) => assert_same(&rt, fault, BoardFault::Memory),
     }
-    assert!(&rt;
+    assert_that_for(
+        &rt,
+        "refused after the last call",
         last_growth(rt.alloc()).is_ok(),
-        "refused after the last call"
     );
 }

@@ -4,6 +4,7 @@ ghost use Rattle.std.specs.Prelude.{◌≡◌, length};
 ghost use Rattle.b3_board.specs.Plans.{IsPlanOf};
 ghost use Rattle.b3_board.specs.Seats.{IsSeatOf};
 
+use super::asserts::{assert_same, assert_that};
 use super::memory::by_grain;
 use super::rendezvous::Yielding;
 use super::{assert_root, counts, open_board, pattern, span, sweep};
@@ -52,27 +53,27 @@ fn deposit_checked<'a, L: InputLedger>(
     let before = counts(board, share);
     let back = match put(board, share, done) {
         Ok(()) => {
-            assert!(rt; is_open && is_own);
+            assert_that(rt, is_open && is_own);
             let (deposited, waiting, chunks) = before;
             let want = (
                 deposited.wrapping_add(span.count),
                 waiting.wrapping_sub(span.count),
                 chunks.wrapping_add(span.count),
             );
-            assert_eq!(rt; counts(board, share), want);
+            assert_same(rt, counts(board, share), want);
             return;
         }
         Err(Refused::NotOpen(back)) => {
-            assert!(rt; !is_open);
+            assert_that(rt, !is_open);
             back
         }
         Err(Refused::OtherBytes(back)) => {
-            assert!(rt; is_open && !is_own);
+            assert_that(rt, is_open && !is_own);
             back
         }
     };
-    assert_eq!(rt; (back.span(), back.node()), (span, node));
-    assert_eq!(rt; counts(board, share), before);
+    assert_same(rt, (back.span(), back.node()), (span, node));
+    assert_same(rt, counts(board, share), before);
 }
 
 // Deposits span `i` of the plan twice, where the plan has so many.
@@ -150,12 +151,13 @@ fn assert_all_done<'a, L: InputLedger>(
     ended: &Ended<L>,
     mut theirs: Share<L>,
 ) {
-    assert_eq!(rt; ended.seat.claimed().len(), plan.len());
-    assert_eq!(rt;
+    assert_same(rt, ended.seat.claimed().len(), plan.len());
+    assert_same(
+        rt,
         ended.share.chunks().wrapping_add(theirs.chunks()),
-        board.deposited()
+        board.deposited(),
     );
-    assert_eq!(rt; sweep(&mut board, &mut theirs), 0);
+    assert_same(rt, sweep(&mut board, &mut theirs), 0);
     assert_root(rt, &board, plan.input());
 }
 
@@ -172,7 +174,7 @@ fn beside_on<'a, L: InputLedger + Send + Sync, R: Threads + Wait + Abort + Sync>
     requires own { IsPlanOf L.input L.mode L.first plan.now }
 {
     let (board, mut share) = open_board::<L>(alloc, plan, blank)?;
-    assert!(rt; share.parts() == 128);
+    assert_that(rt, share.parts() == 128);
     let theirs = share.split();
     let board = Mutex::new(board);
     let (ended, theirs) = work_beside(rt, alloc, &board, share, theirs, plan, strangers)?;
@@ -196,7 +198,7 @@ fn strangers_of<'a>(
     input: &'a [u8],
     zeros: &'a [u8],
 ) -> Result<[Plan<'a>; 4], BoardFault> {
-    assert!(rt; input.len() <= 1 << 20);
+    assert_that(rt, input.len() <= 1 << 20);
     Ok([
         by_grain(alloc, zeros, 1)?,
         Plan::new(alloc, input, Mode::keyed(&[7; 32]), 1)?,

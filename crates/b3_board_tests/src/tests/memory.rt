@@ -4,6 +4,7 @@ ghost use Rattle.std.specs.Prelude.{◌≡◌, length};
 ghost use Rattle.b3_board.specs.Plans.{IsPlanOf};
 ghost use Rattle.b3_board.specs.Seats.{IsSeatOf};
 
+use super::asserts::{assert_same, assert_that, assert_that_for};
 use super::{deposit, open_board, span, sweep};
 use b3_board::{
     BoardFault, Claims, InputLedger, MemoryBoard, OpenGate, Plan, Seat, Share, default_grain,
@@ -72,7 +73,7 @@ fn swept_on<'a, L: InputLedger>(
     requires own { IsPlanOf L.input L.mode L.first plan.now }
 {
     let (mut board, mut share) = open_board::<L>(alloc, plan, blank)?;
-    assert_eq!(rt; board.open_spans(), plan.len());
+    assert_same(rt, board.open_spans(), plan.len());
     Ok(sweep(&mut board, &mut share))
 }
 
@@ -88,9 +89,9 @@ fn assert_plan(
     first: u64,
     len: usize,
 ) -> Result<(), BoardFault> {
-    assert_eq!(rt; (plan.first(), plan.len()), (first, len));
-    assert_eq!(rt; plan.span(len.saturating_sub(1)), Some(span(2, 1)));
-    assert_eq!(rt; answered!(swept(rt, alloc, plan))?, 3);
+    assert_same(rt, (plan.first(), plan.len()), (first, len));
+    assert_same(rt, plan.span(len.saturating_sub(1)), Some(span(2, 1)));
+    assert_same(rt, answered!(swept(rt, alloc, plan))?, 3);
     Ok(())
 }
 
@@ -110,11 +111,16 @@ fn refused_memory_is_answered(rt: HostRuntime) -> Result<(), Fail> {
         16384,
         2,
     )?;
-    assert_eq!(&rt;
+    assert_same(
+        &rt,
         by_grain(alloc, &input, 3).err(),
-        Some(BoardFault::BadGrain)
+        Some(BoardFault::BadGrain),
     );
-    assert!(&rt; last_growth(alloc).is_ok(), "refused after the last call");
+    assert_that_for(
+        &rt,
+        "refused after the last call",
+        last_growth(alloc).is_ok(),
+    );
     Ok(())
 }
 
@@ -130,7 +136,7 @@ fn share_calls<'a, L: InputLedger>(
     board: &mut MemoryBoard<'a, L>,
     share: &mut Share<L>,
 ) -> Share<L> {
-    assert!(rt; share.parts() == 128 && share.chunks() == 0);
+    assert_that(rt, share.parts() == 128 && share.chunks() == 0);
     let part = share.split();
     share.join(part);
     board.audit(share);
@@ -139,26 +145,31 @@ fn share_calls<'a, L: InputLedger>(
 
 // The readers of a plan of three chunks, and of what is done.
 fn plan_calls(rt: &impl Abort, plan: &Plan) {
-    assert_eq!(rt;
+    assert_same(
+        rt,
         (plan.input().len(), plan.first(), plan.len()),
-        (3000, 0, 3)
+        (3000, 0, 3),
     );
-    assert!(rt; plan.mode() == Mode::hash() && plan.span(3).is_none());
+    assert_that(rt, plan.mode() == Mode::hash() && plan.span(3).is_none());
     let done = plan.job(2).expect(rt, "a job").work();
-    assert!(rt; done.span() == span(2, 1) && done.node().d == 2);
+    assert_that(rt, done.span() == span(2, 1) && done.node().d == 2);
 }
 
 // The readers of a board of three chunks with nothing left to do, and of its root.
 fn board_calls<'a, L: InputLedger>(rt: &impl Abort, plan: &Plan<'a>, board: &MemoryBoard<'a, L>) {
-    assert!(rt; board.is_over(plan) && board.input().len() == 3000);
-    assert_eq!(rt;
+    assert_that(rt, board.is_over(plan) && board.input().len() == 3000);
+    assert_same(
+        rt,
         (board.open_spans(), board.deposited(), board.waiting()),
-        (0, 3, 0)
+        (0, 3, 0),
     );
-    assert!(rt; board.open_span(0).is_none() && board.piece(0) == Some(span(0, 3)));
+    assert_that(
+        rt,
+        board.open_span(0).is_none() && board.piece(0) == Some(span(0, 3)),
+    );
     let root = board.root().expect(rt, "a root");
-    assert!(rt; root.kept() && !plan.plain().kept());
-    assert_eq!(rt; plan.plain().node(), root.node());
+    assert_that(rt, root.kept() && !plan.plain().kept());
+    assert_same(rt, plan.plain().node(), root.node());
 }
 
 // A worker goes through the spans, its seat is joined, and the claims are closed. How many chunks it deposited, and how
@@ -174,11 +185,11 @@ fn claim_calls<'a, L: InputLedger, R: Wait + Abort>(
     requires count { claims.count ≡ length plan.now.spans }
     requires own { IsSeatOf claims seat }
 {
-    assert!(rt; seat.parts() == 128 && seat.claimed().is_empty());
+    assert_that(rt, seat.parts() == 128 && seat.claimed().is_empty());
     let other = claims.split(&mut seat);
     let ended = worker(rt, plan, board, &claims, other, theirs, 1, &OpenGate);
     claims.join(&mut seat, ended.seat);
-    assert!(rt; seat.parts() == 128);
+    assert_that(rt, seat.parts() == 128);
     (ended.share.chunks(), claims.close(seat).len())
 }
 
@@ -208,10 +219,10 @@ fn growths_on<'a, L: InputLedger, R: Wait + Abort>(
     }
     let board = Mutex::new(board);
     let deposited = claim_calls(rt, plan, &board, claims, seat, theirs);
-    assert_eq!(rt; deposited, (2, plan.len()));
+    assert_same(rt, deposited, (2, plan.len()));
     let mut board = board.into_inner();
-    assert_eq!(rt; default_grain(3), 16);
-    assert_eq!(rt; (sweep(&mut board, &mut share), share.chunks()), (0, 1));
+    assert_same(rt, default_grain(3), 16);
+    assert_same(rt, (sweep(&mut board, &mut share), share.chunks()), (0, 1));
     plan_calls(rt, plan);
     board_calls(rt, plan, &board);
     last_growth(alloc)

@@ -1,5 +1,6 @@
 // Runs behind gates that wait.
 
+use super::asserts::{assert_same, assert_that, assert_that_for};
 use super::memory::{by_cutting, by_grain};
 use super::rendezvous::{AllAtOnce, TURNS};
 use super::workers::{assert_report, run};
@@ -22,8 +23,8 @@ fn all_workers_at_once(rt: HostRuntime) -> Result<(), Fail> {
         let plan = by_grain(rt.alloc(), part, 64)?;
         let gate = AllAtOnce::new(workers);
         let report = run(&rt, rt.alloc(), &plan, workers, &gate)?;
-        assert!(&rt; gate.workers.is_complete(), "{workers} workers");
-        assert_eq!(&rt; gate.workers.arrived().count_ones(), workers);
+        assert_that_for(&rt, workers, gate.workers.is_complete());
+        assert_same(&rt, gate.workers.arrived().count_ones(), workers);
         assert_report(&rt, &report, part, 0, plan.len(), workers);
     }
     Ok(())
@@ -34,12 +35,13 @@ fn all_workers_at_once(rt: HostRuntime) -> Result<(), Fail> {
 fn numbers_of_workers_and_of_spans(rt: HostRuntime) -> Result<(), Fail> {
     let input = pattern(rt.alloc(), 2 * WORK_LEN)?;
     let plan = by_grain(rt.alloc(), &input, 32)?;
-    assert_eq!(&rt; plan.len(), 8);
+    assert_same(&rt, plan.len(), 8);
     let gate = AllAtOnce::new(2);
     run(&rt, rt.alloc(), &plan, 2, &gate)?;
-    assert_eq!(&rt;
+    assert_same(
+        &rt,
         (gate.workers.arrived(), gate.spans(), gate.calls()),
-        (0b11, 0xff, 8)
+        (0b11, 0xff, 8),
     );
     Ok(())
 }
@@ -116,6 +118,6 @@ fn no_span_is_hashed_under_the_lock(rt: HostRuntime) -> Result<(), Fail> {
         run(&rt, rt.alloc(), &plan, 2, &gate)?;
         is_seen = gate.is_before.load(Ordering::SeqCst) && gate.is_soon.load(Ordering::SeqCst);
     }
-    assert!(&rt; is_seen);
+    assert_that(&rt, is_seen);
     Ok(())
 }

@@ -1,5 +1,6 @@
 // Which cuttings and grains are taken.
 
+use super::asserts::{assert_same, assert_same_for, assert_that};
 use super::memory::{by_cutting, by_grain};
 use super::{pattern, span};
 use b3_board::{BoardFault, Plan, default_grain};
@@ -15,7 +16,7 @@ fn cut_later<'a>(
     input: &'a [u8],
     cutting: &[Span],
 ) -> Result<Plan<'a>, BoardFault> {
-    assert!(rt; input.len() <= 1 << 30);
+    assert_that(rt, input.len() <= 1 << 30);
     Plan::cut_at(alloc, input, Mode::hash(), 16384, cutting)
 }
 
@@ -24,12 +25,13 @@ fn cuttings_that_are_taken_and_refused(rt: HostRuntime) -> Result<(), Fail> {
     let alloc = rt.alloc();
     let input = pattern(alloc, 6 * 1024)?;
     let taken = cut_later(&rt, alloc, &input, &[span(0, 4), span(4, 2)])?;
-    assert_eq!(&rt;
+    assert_same(
+        &rt,
         (taken.first(), taken.len(), taken.span(2)),
-        (16384, 2, None)
+        (16384, 2, None),
     );
     let between = cut_later(&rt, alloc, &input, &[span(0, 2), span(2, 4)]);
-    assert_eq!(&rt; between.err(), Some(BoardFault::BadCut));
+    assert_same(&rt, between.err(), Some(BoardFault::BadCut));
     let refused: [&[Span]; 7] = [
         &[span(0, 2), span(2, 4)],
         &[span(0, 4)],
@@ -41,7 +43,7 @@ fn cuttings_that_are_taken_and_refused(rt: HostRuntime) -> Result<(), Fail> {
     ];
     for spans in refused {
         let found = by_cutting(alloc, &input, spans);
-        assert_eq!(&rt; found.err(), Some(BoardFault::BadCut));
+        assert_same(&rt, found.err(), Some(BoardFault::BadCut));
     }
     Ok(())
 }
@@ -56,19 +58,21 @@ fn grains_that_are_taken_and_refused(rt: HostRuntime) -> Result<(), Fail> {
         (3, BoardFault::BadGrain),
         (1 << 21, BoardFault::BadGrain),
     ] {
-        assert_eq!(&rt;
+        assert_same_for(
+            &rt,
+            grain,
             by_grain(alloc, &input, grain).err(),
             Some(fault),
-            "{grain}"
         );
     }
     let plan = by_grain(alloc, &input, 1024)?;
-    assert_eq!(&rt;
+    assert_same(
+        &rt,
         (plan.span(0), plan.span(1), plan.span(2)),
-        (Some(span(0, 1024)), Some(span(1024, 1)), None)
+        (Some(span(0, 1024)), Some(span(1024, 1)), None),
     );
     let none = by_grain(alloc, &[], 1)?;
-    assert_eq!(&rt; (none.len(), none.span(0)), (1, Some(span(0, 1))));
+    assert_same(&rt, (none.len(), none.span(0)), (1, Some(span(0, 1))));
     Ok(())
 }
 
@@ -80,12 +84,16 @@ fn default_grains(rt: HostRuntime) -> Result<(), Fail> {
         ((1 << 14) + 1, 32, 513),
         (1 << 20, 1024, 1024),
     ] {
-        assert!(&rt; 1 <= n && n <= 1 << 20);
+        assert_that(&rt, 1 <= n && n <= 1 << 20);
         let told = default_grain(n);
-        assert_eq!(&rt; (told, n.div_ceil(grain)), (grain, spans), "{n} chunks");
+        assert_same_for(&rt, n, (told, n.div_ceil(grain)), (grain, spans));
     }
     let input = vec![in rt.alloc(); 0; (1 << 24) + 1]?;
     let plan = by_grain(rt.alloc(), &input, default_grain((1 << 14) + 1))?;
-    assert_eq!(&rt; (plan.len(), plan.span(512)), (513, Some(span(1 << 14, 1))));
+    assert_same(
+        &rt,
+        (plan.len(), plan.span(512)),
+        (513, Some(span(1 << 14, 1))),
+    );
     Ok(())
 }

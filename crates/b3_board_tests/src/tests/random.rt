@@ -2,6 +2,7 @@
 
 ghost use Rattle.std.specs.Prelude.{◌<◌};
 
+use super::asserts::assert_that;
 use super::memory::by_cutting;
 use super::{in_order, pattern, span};
 use b3_core::{Span, left};
@@ -48,7 +49,10 @@ pub fn cut_at_random(
         };
         if next.count > 1 && rng.below(whole) > 0 {
             let count = left(next.count);
-            assert!(rt; next.first < 1 << 20 && count < next.count && next.count <= 1 << 20);
+            assert_that(
+                rt,
+                next.first < 1 << 20 && count < next.count && next.count <= 1 << 20,
+            );
             rest.push(span(next.first + count, next.count - count))?;
             rest.push(span(next.first, count))?;
         } else {
@@ -68,7 +72,7 @@ fn order_at_random(
     let mut order = Vec::with_capacity(alloc, n)?;
     for i in 0..n {
         let place = rng.below(i as u64 + 1) as usize;
-        assert!(rt; place <= order.len());
+        assert_that(rt, place <= order.len());
         order.insert(place, i)?;
     }
     Ok(order)
@@ -95,12 +99,12 @@ fn random_cuttings_and_orders(rt: HostRuntime) -> Result<(), Fail> {
     let mut rng = Rng { state: 1 };
     for turn in 0..1000usize {
         let (len, whole) = lengths_at_random(&mut rng, turn);
-        assert!(&rt; len <= input.len());
+        assert_that(&rt, len <= input.len());
         let part = &input[..len];
         let n = b3_core::chunks(len as u64);
         let cutting = cut_at_random(&rt, alloc, &mut rng, n, whole)?;
         let plan = by_cutting(alloc, part, &cutting)?;
-        assert!(&rt; turn > 0 || plan.len() == 1024);
+        assert_that(&rt, turn > 0 || plan.len() == 1024);
         let order = order_at_random(&rt, alloc, &mut rng, plan.len())?;
         in_order(&rt, alloc, &plan, &order, 1)?;
     }

@@ -2,6 +2,7 @@
 
 ghost use Rattle.std.specs.Prelude.{◌≡◌, ℕ, ◌+◌, ◌≤◌, List, drop, length, take, Some, None};
 
+use super::asserts::{assert_same, assert_same_for, assert_that, assert_that_for};
 use super::memory::last_growth;
 use super::pattern;
 use super::rendezvous::{AllAtOnce, Rendezvous, Yielding};
@@ -139,7 +140,7 @@ fn read_part<R: Threads + Wait + Sync, G: Gate + Sync>(
 
 // The report of spans of two chunks.
 fn assert_read(rt: &impl Abort, found: Option<Report>, bytes: &[u8], first: u64, workers: u32) {
-    assert!(rt; bytes.len() <= 1 << 30);
+    assert_that(rt, bytes.len() <= 1 << 30);
     let spans = chunks(bytes.len() as u64).div_ceil(2);
     let report = found.expect(rt, "a root");
     assert_report(rt, &report, bytes, first, spans as usize, workers);
@@ -195,7 +196,7 @@ fn too_few_bytes(rt: HostRuntime) -> Result<(), Fail> {
     let source = Silent::good(input.as_slice(), 0);
     for len in [9 * 1024 + 1u64, 10 * 1024, 13 * 1024] {
         let found = read_part(&rt, rt.alloc(), &source, 0, len, 2, &OpenGate)?;
-        assert!(&rt; found.is_none(), "{len} bytes");
+        assert_that_for(&rt, len, found.is_none());
     }
     Ok(())
 }
@@ -222,7 +223,7 @@ fn too_short_a_buffer(rt: HostRuntime) -> Result<(), Fail> {
             &mut buffer,
             &OpenGate,
         )?;
-        assert_eq!(&rt; found.is_some(), is_taken, "{room} bytes");
+        assert_same_for(&rt, room, found.is_some(), is_taken);
     }
     Ok(())
 }
@@ -245,7 +246,7 @@ fn a_room_for_one_span(rt: HostRuntime) -> Result<(), Fail> {
         &Yielding,
     )?;
     let report = found.expect(&rt, "a root");
-    assert_eq!(&rt; report.shares.as_slice(), [9u64, 0, 0, 0].as_slice());
+    assert_same(&rt, report.shares.as_slice(), [9u64, 0, 0, 0].as_slice());
     assert_read(&rt, Some(report), &bytes, 0, 4);
     Ok(())
 }
@@ -260,9 +261,10 @@ fn two_readers_a_thousand_times(rt: HostRuntime) -> Result<(), Fail> {
         let gate = AllAtOnce::new(2);
         let found = read_part(&rt, rt.alloc(), &source, 0, 64 * 1024, 2, &gate)?;
         assert_read(&rt, found, all, 0, 2);
-        assert_eq!(&rt;
+        assert_same(
+            &rt,
             (source.reads.load(Ordering::SeqCst), gate.calls()),
-            (32, 32)
+            (32, 32),
         );
     }
     Ok(())
@@ -289,7 +291,7 @@ fn each_read_fails(rt: HostRuntime) -> Result<(), Fail> {
         for bad in 0..5u64 {
             for workers in [1u32, 3] {
                 let found = read_five(&rt, rt.alloc(), all, bad, how, workers)?;
-                assert!(&rt; found.is_none(), "read {bad}");
+                assert_that_for(&rt, bad, found.is_none());
             }
         }
         let found = read_five(&rt, rt.alloc(), all, 5, how, 3)?;
@@ -307,16 +309,16 @@ fn workers_at_once_over_a_source(rt: HostRuntime) -> Result<(), Fail> {
         let len = part.len() as u64;
         let source = Silent::good(part, workers);
         let found = read_part(&rt, rt.alloc(), &source, 0, len, workers, &OpenGate)?;
-        assert!(&rt; source.readers.is_complete(), "{workers} readers");
+        assert_that_for(&rt, workers, source.readers.is_complete());
         assert_read(&rt, found, part, 0, workers);
 
         let source = Silent::good(part, 0);
         let gate = AllAtOnce::new(workers);
         let found = read_part(&rt, rt.alloc(), &source, 0, len, workers, &gate)?;
-        assert!(&rt; gate.workers.is_complete(), "{workers} workers");
+        assert_that_for(&rt, workers, gate.workers.is_complete());
         let report = found.expect(&rt, "a root");
         for share in report.shares.iter() {
-            assert_eq!(&rt; *share, 2, "{workers} workers");
+            assert_same_for(&rt, workers, *share, 2);
         }
         assert_read(&rt, Some(report), part, 0, workers);
     }
@@ -345,7 +347,7 @@ fn refused_runs_over_a_source(rt: HostRuntime) -> Result<(), Fail> {
             &mut [],
             &OpenGate,
         );
-        assert_eq!(&rt; found.err(), Some(fault));
+        assert_same(&rt, found.err(), Some(fault));
     }
     Ok(())
 }
@@ -361,7 +363,7 @@ fn answers_of_two<R: Threads + Wait + Abort + Sync>(rt: &R, alloc: Global) -> u3
                 assert_read(rt, found, &bytes, 0, 4);
                 answers = answers.wrapping_add(1);
             }
-            Err(fault) => assert_eq!(rt; fault, BoardFault::Memory),
+            Err(fault) => assert_same(rt, fault, BoardFault::Memory),
         }
     }
     answers
@@ -369,10 +371,11 @@ fn answers_of_two<R: Threads + Wait + Abort + Sync>(rt: &R, alloc: Global) -> u3
 
 #[test]
 fn refused_memory_of_a_source(rt: HostRuntime) -> Result<(), Fail> {
-    assert!(&rt; answers_of_two(&rt, rt.alloc()) > 0);
-    assert!(&rt;
+    assert_that(&rt, answers_of_two(&rt, rt.alloc()) > 0);
+    assert_that_for(
+        &rt,
+        "refused after the last call",
         last_growth(rt.alloc()).is_ok(),
-        "refused after the last call"
     );
     Ok(())
 }
@@ -423,7 +426,7 @@ fn spans_of_several_pieces(rt: HostRuntime) -> Result<(), Fail> {
             let found = read_in_pieces(&rt, rt.alloc(), &source, len, workers)?;
             let report = found.expect(&rt, "a root");
             assert_report(&rt, &report, part, 0, spans, workers);
-            assert_eq!(&rt; source.reads.load(Ordering::SeqCst), reads, "{len} bytes");
+            assert_same_for(&rt, len, source.reads.load(Ordering::SeqCst), reads);
         }
     }
     Ok(())
@@ -439,7 +442,7 @@ fn each_piece_fails(rt: HostRuntime) -> Result<(), Fail> {
             for workers in [1u32, 3] {
                 let source = Silent::new(input.as_slice(), bad, how);
                 let found = read_in_pieces(&rt, rt.alloc(), &source, len, workers)?;
-                assert_eq!(&rt; found.is_some(), bad == 6, "read {bad}");
+                assert_same_for(&rt, bad, found.is_some(), bad == 6);
             }
         }
     }

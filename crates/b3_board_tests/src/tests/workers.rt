@@ -1,5 +1,6 @@
 // Runs of many workers.
 
+use super::asserts::{assert_same, assert_that, assert_that_for};
 use super::memory::{by_cutting, by_grain, last_growth};
 use super::random::{Rng, cut_at_random};
 use super::rendezvous::Yielding;
@@ -42,17 +43,18 @@ pub(super) fn assert_report(
     spans: usize,
     workers: u32,
 ) {
-    assert!(rt; bytes.len() <= 1 << 30 && first <= 1 << 20);
-    assert!(rt; report.root.kept());
-    assert_eq!(rt; report.root.node(), top(&Mode::hash(), first, bytes));
-    assert_eq!(rt; report.claimed.len(), spans);
-    for i in 0..spans {
-        assert!(rt; report.claimed.contains(&(i as u32)), "span {i}");
+    assert_that(rt, bytes.len() <= 1 << 30 && first <= 1 << 20);
+    assert_that(rt, report.root.kept());
+    assert_same(rt, report.root.node(), top(&Mode::hash(), first, bytes));
+    assert_same(rt, report.claimed.len(), spans);
+    for i in 0..report.claimed.len() {
+        assert_that_for(rt, i, report.claimed.contains(&(i as u32)));
     }
-    assert_eq!(rt; report.shares.len(), workers as usize);
-    assert_eq!(rt;
+    assert_same(rt, report.shares.len(), workers as usize);
+    assert_same(
+        rt,
         (sum_of(report), report.swept),
-        (chunks(bytes.len() as u64), 0)
+        (chunks(bytes.len() as u64), 0),
     );
 }
 
@@ -61,12 +63,13 @@ fn nothing_and_64_workers(rt: HostRuntime) -> Result<(), Fail> {
     let plan = by_grain(rt.alloc(), &[], 1)?;
     let report = run(&rt, rt.alloc(), &plan, 64, &OpenGate)?;
     assert_report(&rt, &report, plan.input(), 0, 1, 64);
-    assert_eq!(&rt; report.claimed.as_slice(), [0u32].as_slice());
+    assert_same(&rt, report.claimed.as_slice(), [0u32].as_slice());
     assert_digest(&rt, &report.root, &DIGEST_OF_0);
     for workers in [0u32, 65] {
-        assert_eq!(&rt;
+        assert_same(
+            &rt,
             run(&rt, rt.alloc(), &plan, workers, &OpenGate).err(),
-            Some(BoardFault::BadWorkers)
+            Some(BoardFault::BadWorkers),
         );
     }
     Ok(())
@@ -80,7 +83,7 @@ fn random_cuttings_and_workers(rt: HostRuntime) -> Result<(), Fail> {
     for _ in 0..100usize {
         let greatest = 1 + rng.below(100 * 1024);
         let len = rng.below(greatest) as usize;
-        assert!(&rt; len <= input.len());
+        assert_that(&rt, len <= input.len());
         let part = &input[..len];
         let cutting = cut_at_random(&rt, alloc, &mut rng, chunks(len as u64), 8)?;
         let plan = by_cutting(alloc, part, &cutting)?;
@@ -118,7 +121,7 @@ fn answers_of_two<R: Threads + Wait + Abort + Sync>(rt: &R, alloc: Global) -> u3
                 assert_report(rt, &report, plan.input(), 0, plan.len(), 4);
                 answers = answers.wrapping_add(1);
             }
-            Err(fault) => assert_eq!(rt; fault, BoardFault::Memory),
+            Err(fault) => assert_same(rt, fault, BoardFault::Memory),
         }
     }
     answers
@@ -127,7 +130,11 @@ fn answers_of_two<R: Threads + Wait + Abort + Sync>(rt: &R, alloc: Global) -> u3
 #[test]
 fn refused_memory_of_a_run(rt: HostRuntime) -> Result<(), Fail> {
     let alloc = rt.alloc();
-    assert!(&rt; answers_of_two(&rt, alloc) > 0);
-    assert!(&rt; last_growth(alloc).is_ok(), "refused after the last call");
+    assert_that(&rt, answers_of_two(&rt, alloc) > 0);
+    assert_that_for(
+        &rt,
+        "refused after the last call",
+        last_growth(alloc).is_ok(),
+    );
     Ok(())
 }

@@ -1,5 +1,6 @@
 // The arguments of a call, as an environment gives them.
 
+use super::asserts::{assert_same, assert_same_for, assert_that, assert_that_for};
 use b3_call::arguments;
 use std::env::FillError;
 use std::io::{self, ErrorKind};
@@ -41,14 +42,15 @@ impl Env for Given {
 fn arguments_of_any_length_are_read(rt: HostRuntime) -> Result<(), io::Error> {
     for len in [0, 1, 255, 256, 257, 512, 513, 131_071] {
         let given = arguments(&Given { len, last: b'z' }, rt.alloc())?;
-        assert_eq!(&rt; given.len(), 3, "{len}");
-        assert_eq!(&rt; given[0].as_str(), "ppppp", "{len}");
-        assert_eq!(&rt; given[1].len(), len);
-        assert!(&rt;
+        assert_that_for(&rt, len, given.len() == 3);
+        assert_same_for(&rt, len, given[0].as_str(), "ppppp");
+        assert_same(&rt, given[1].len(), len);
+        assert_that_for(
+            &rt,
+            len,
             given[1].as_bytes().iter().all(|byte| *byte == b'x'),
-            "{len}"
         );
-        assert_eq!(&rt; given[2].as_str(), "z", "{len}");
+        assert_same_for(&rt, len, given[2].as_str(), "z");
     }
     Ok(())
 }
@@ -85,8 +87,8 @@ impl Env for Texts<'_> {
 fn two_thousand_arguments_are_read(rt: HostRuntime) -> Result<(), io::Error> {
     let texts = ["x"; 2_000];
     let given = arguments(&Texts { texts: &texts }, rt.alloc())?;
-    assert_eq!(&rt; given.len(), 2_000);
-    assert!(&rt; given.iter().all(|text| text.as_str() == "x"));
+    assert_same(&rt, given.len(), 2_000);
+    assert_that(&rt, given.iter().all(|text| text.as_str() == "x"));
     Ok(())
 }
 
@@ -96,9 +98,9 @@ fn arguments_are_read_to_the_character(rt: HostRuntime) -> Result<(), io::Error>
         "", "a", " a", "a ", " ", "\ta\n", "a\r", "a/", "a//", "./a", "-", "--", "\u{e9}", "A",
     ];
     let given = arguments(&Texts { texts: &texts }, rt.alloc())?;
-    assert_eq!(&rt; given.len(), texts.len());
+    assert_same(&rt, given.len(), texts.len());
     for (text, argument) in texts.iter().zip(given.iter()) {
-        assert_eq!(&rt; argument.as_str(), *text);
+        assert_same(&rt, argument.as_str(), *text);
     }
     Ok(())
 }
@@ -106,5 +108,8 @@ fn arguments_are_read_to_the_character(rt: HostRuntime) -> Result<(), io::Error>
 #[test]
 fn an_argument_that_is_no_text_is_refused(rt: HostRuntime) {
     let given = arguments(&Given { len: 1, last: 0xff }, rt.alloc());
-    assert!(rt; given.is_err_and(|error| error.kind() == ErrorKind::InvalidData));
+    assert_that(
+        &rt,
+        given.is_err_and(|error| error.kind() == ErrorKind::InvalidData),
+    );
 }

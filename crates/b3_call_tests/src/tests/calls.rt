@@ -2,6 +2,7 @@
 
 ghost use Rattle.std.specs.Prelude.{◌≡◌, IfOk};
 
+use super::asserts::{assert_same, assert_that};
 use b3_board::OpenGate;
 use b3_call::run_call;
 use b3_check::{MemoryShelf, MemorySink, Shelf, Sink};
@@ -56,9 +57,9 @@ pub fn assert_call<R: Abort + Threads + Wait + Clock + Sync, S: Shelf + Send + S
         &OpenGate,
         &silent(rt, alloc),
     );
-    assert_eq!(rt; out_sink.bytes(), out);
-    assert_eq!(rt; err_sink.bytes(), err);
-    assert_eq!(rt; ended, status);
+    assert_same(rt, out_sink.bytes(), out);
+    assert_same(rt, err_sink.bytes(), err);
+    assert_same(rt, ended, status);
     Ok(())
 }
 
@@ -298,9 +299,9 @@ fn arguments_that_cannot_be_had(rt: HostRuntime) {
             &OpenGate,
             &silent(&rt, rt.alloc()),
         );
-        assert!(rt; out.bytes().is_empty());
-        assert_eq!(rt; err.bytes(), text.as_bytes());
-        assert_eq!(rt; ended, *status);
+        assert_that(&rt, out.bytes().is_empty());
+        assert_same(&rt, err.bytes(), text.as_bytes());
+        assert_same(&rt, ended, *status);
     }
 }
 
@@ -327,8 +328,8 @@ fn assert_cut_short<R: Abort + AllocGlobal + Threads + Wait + Clock + Sync, S: S
         &OpenGate,
         &silent,
     );
-    assert_eq!(rt; err.bytes(), b"b3sum: cannot write\n".as_slice());
-    assert_eq!(rt; ended, 1);
+    assert_same(rt, err.bytes(), b"b3sum: cannot write\n".as_slice());
+    assert_same(rt, ended, 1);
     Ok(())
 }
 

@@ -2,6 +2,7 @@
 
 ghost use Rattle.std.specs.Prelude.{◌≡◌};
 
+use super::asserts::assert_same_for;
 use super::calls::arguments;
 use b3_board::OpenGate;
 use b3_call::run_call;
@@ -84,7 +85,7 @@ fn progress_where_it_is_wanted(rt: HostRuntime) -> Result<(), AllocError> {
                 &progress,
             );
             let is_seen = is_written.load(Ordering::SeqCst);
-            assert_eq!(rt; is_seen, is_shown && is_terminal, "{words:?}");
+            assert_same_for(&rt, words, is_seen, is_shown && is_terminal);
         }
     }
     Ok(())

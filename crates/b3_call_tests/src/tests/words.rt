@@ -1,5 +1,6 @@
 // What `clap` reads of words, and that settling them takes no memory.
 
+use super::asserts::{assert_same, assert_that, assert_that_for};
 use b3_call::read_words;
 use b3_check::{MAX_OUTPUT_LEN, MAX_WORKERS};
 use b3_program::{Job, Stop, Task, Usage, Words, settle};
@@ -21,7 +22,7 @@ fn read(alloc: Global, words: &[&str]) -> Result<Words, Stop> {
 fn assert_refused(rt: &impl Abort, alloc: Global, words: &[&str], part: &str) {
     match read(alloc, words) {
         Err(Stop::Refused(text)) => {
-            assert!(rt; text.contains(part), "the text is {text}");
+            assert_that_for(rt, text.as_str(), text.contains(part));
         }
         _ => assert!(rt; false, "the words are taken"),
     }
@@ -59,19 +60,32 @@ const ALL: [&str; 26] = [
 #[test]
 fn all_words(rt: HostRuntime) -> Result<(), Stop> {
     let words = read(rt.alloc(), &ALL)?;
-    assert!(rt; words.check && words.keyed && words.raw && words.no_names && words.quiet);
-    assert!(rt; words.tag && words.ignore_missing && words.status && words.strict && words.warn);
-    assert!(rt; words.progress && !words.wants_progress());
-    assert_eq!(rt; words.seek, Some(7));
-    assert!(rt; words.derive_key == Some(String::from_str(rt.alloc(), "a context")?));
-    assert_eq!(rt; words.length, Some(0));
-    assert_eq!(rt; words.num_threads, Some(0));
-    assert!(rt; words.files0_from == Some(String::from_str(rt.alloc(), "names")?));
-    assert_eq!(rt; words.files.len(), 3);
-    assert!(rt;
+    assert_that(
+        &rt,
+        words.check && words.keyed && words.raw && words.no_names && words.quiet,
+    );
+    assert_that(
+        &rt,
+        words.tag && words.ignore_missing && words.status && words.strict && words.warn,
+    );
+    assert_that(&rt, words.progress && !words.wants_progress());
+    assert_same(&rt, words.seek, Some(7));
+    assert_that(
+        &rt,
+        words.derive_key == Some(String::from_str(rt.alloc(), "a context")?),
+    );
+    assert_same(&rt, words.length, Some(0));
+    assert_same(&rt, words.num_threads, Some(0));
+    assert_that(
+        &rt,
+        words.files0_from == Some(String::from_str(rt.alloc(), "names")?),
+    );
+    assert_that(&rt, words.files.len() == 3);
+    assert_that(
+        &rt,
         words.files[0].as_str() == "a"
             && words.files[1].as_str() == "-b"
-            && words.files[2].as_str() == "-"
+            && words.files[2].as_str() == "-",
     );
     Ok(())
 }
@@ -79,14 +93,20 @@ fn all_words(rt: HostRuntime) -> Result<(), Stop> {
 #[test]
 fn the_ends_of_each_range(rt: HostRuntime) -> Result<(), Stop> {
     let alloc = rt.alloc();
-    assert_eq!(rt; read(alloc, &["--length=1048576"])?.length, Some(1_048_576));
-    assert_eq!(rt;
-        read(alloc, &["--num-threads=65535"])?.num_threads,
-        Some(65_535)
+    assert_same(
+        &rt,
+        read(alloc, &["--length=1048576"])?.length,
+        Some(1_048_576),
     );
-    assert_eq!(rt;
+    assert_same(
+        &rt,
+        read(alloc, &["--num-threads=65535"])?.num_threads,
+        Some(65_535),
+    );
+    assert_same(
+        &rt,
         read(alloc, &["--seek=18446744073709551615"])?.seek,
-        Some(u64::MAX)
+        Some(u64::MAX),
     );
     assert_refused(
         &rt,
@@ -165,20 +185,22 @@ fn words_of_a_sum(alloc: Global, tag: bool, no_names: bool) -> Words {
 #[test]
 fn settling_words_takes_no_memory(rt: HostRuntime) {
     let task = settle(words_of_a_sum(rt.alloc(), true, false));
-    assert!(rt;
+    assert_that(
+        &rt,
         matches!(
             task,
             Ok(Task {
                 job: Job::Sum(_),
                 ..
             })
-        )
+        ),
     );
     let task = settle(words_of_a_sum(rt.alloc(), true, true));
-    assert!(rt; matches!(task, Err(Usage::TagExcludes("--no-names"))));
-    assert!(rt;
+    assert_that(&rt, matches!(task, Err(Usage::TagExcludes("--no-names"))));
+    assert_that_for(
+        &rt,
+        "refused after the last call",
         String::from_str(rt.alloc(), "x").is_ok(),
-        "refused after the last call"
     );
 }
 
@@ -186,7 +208,7 @@ fn settling_words_takes_no_memory(rt: HostRuntime) {
 fn assert_said(rt: &impl Abort, alloc: Global, words: &[&str], said: &str) {
     match read(alloc, words) {
         Err(Stop::Refused(text)) => {
-            assert_eq!(rt; text.as_str(), said);
+            assert_same(rt, text.as_str(), said);
         }
         _ => assert!(rt; false, "the words are taken"),
     }
@@ -207,13 +229,15 @@ fn help_and_version(rt: HostRuntime) -> Result<(), AllocError> {
     let threads = format!(in rt.alloc(); "at most {MAX_WORKERS}")?;
     match read(rt.alloc(), &["--help"]) {
         Err(Stop::Asked(text)) => {
-            assert!(rt;
+            assert_that_for(
+                &rt,
+                "the help has no range of lengths",
                 text.contains(range.as_str()),
-                "the help has no range of lengths"
             );
-            assert!(rt;
+            assert_that_for(
+                &rt,
+                "the help has no greatest number of threads",
                 text.contains(threads.as_str()),
-                "the help has no greatest number of threads"
             );
             for word in [
                 "Usage: b3sum [OPTIONS] [FILE]...",
@@ -221,13 +245,13 @@ fn help_and_version(rt: HostRuntime) -> Result<(), AllocError> {
                 "Examples:",
                 "status",
             ] {
-                assert!(rt; text.contains(word), "the help has no {word}");
+                assert_that_for(&rt, word, text.contains(word));
             }
         }
         _other => assert!(rt; false, "no help"),
     }
     match read(rt.alloc(), &["--version"]) {
-        Err(Stop::Asked(text)) => assert_eq!(rt; text.as_str(), "b3sum 0.1.0\n"),
+        Err(Stop::Asked(text)) => assert_same(&rt, text.as_str(), "b3sum 0.1.0\n"),
         _other => assert!(rt; false, "no version"),
     }
     Ok(())

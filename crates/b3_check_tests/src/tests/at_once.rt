@@ -1,6 +1,7 @@
 // As many workers as are asked for work at the same time: on the spans of one content, and on contents beside one
 // another.
 
+use super::asserts::{assert_same, assert_same_for, assert_that_for};
 use crate::tests::contents::{line_of, pattern};
 use crate::tests::ended::{Ended, check, check_behind, sum, sum_behind};
 use crate::tests::lettered_files::{Access, LetteredFiles};
@@ -37,9 +38,9 @@ fn assert_passed(
     text: &str,
 ) {
     ended.assert(rt, text, Ok(tally(1, 0, 0)), text.as_bytes(), b"");
-    assert!(rt; gate.workers.is_complete(), "{workers} workers");
-    assert_eq!(rt; gate.workers.arrived(), workers);
-    assert_eq!(rt; gate.calls(), spans, "{workers} workers");
+    assert_that_for(rt, workers, gate.workers.is_complete());
+    assert_same(rt, gate.workers.arrived(), workers);
+    assert_same_for(rt, workers, gate.calls(), spans);
 }
 
 // Behind a gate that holds each worker until all have come, by either engine.
@@ -90,12 +91,12 @@ fn assert_asked<R: Abort + Threads + Wait + Sync>(
     shelf.readers = Rendezvous::new(workers);
     let ended = sum(rt, alloc, &mut shelf, &names, &sum_by(workers))?;
     ended.assert(rt, name, Ok(tally(files, 0, 0)), lines.as_bytes(), b"");
-    assert!(rt; shelf.readers.is_complete(), "{workers} workers");
+    assert_that_for(rt, workers, shelf.readers.is_complete());
     let mut shelf = LetteredFiles::new(alloc, &kept, lines.as_bytes(), access);
     shelf.readers = Rendezvous::new(workers);
     let ended = check(rt, alloc, &mut shelf, &["l"], &check_by(workers))?;
     ended.assert(rt, name, Ok(tally(files, 0, 0)), verdicts.as_bytes(), b"");
-    assert!(rt; shelf.readers.is_complete(), "{workers} workers");
+    assert_that_for(rt, workers, shelf.readers.is_complete());
     Ok(())
 }
 

@@ -1,5 +1,6 @@
 // Runs that check lists.
 
+use super::asserts::assert_same_for;
 use crate::tests::ended::{check, check_files};
 use crate::tests::failing::EndlessFile;
 use crate::tests::{check_options, lines_tally};
@@ -106,7 +107,7 @@ fn lists_and_what_is_written_of_them(rt: HostRuntime) -> Result<(), Fail> {
         let [ok, differing, unreadable, malformed] = *counts;
         let counts = lines_tally(ok, differing, unreadable, malformed);
         ended.assert(&rt, row, Ok(counts), out, err);
-        assert_eq!(&rt; counts.status() == 0, err.is_empty(), "{row}");
+        assert_same_for(&rt, row, counts.status() == 0, err.is_empty());
     }
     Ok(())
 }

@@ -2,6 +2,7 @@
 
 ghost use Rattle.std.specs.Prelude.{◌≡◌, ◌^◌, ◌<◌};
 
+use super::asserts::{assert_same, assert_same_for, assert_that, assert_that_for};
 use crate::tests::crew_files::{CrewFiles, Gates, Log, LogSink, Seen, letter_of};
 use crate::tests::ended::sum_into;
 use crate::tests::{EMPTY, ONE_BYTE, options, tally};
@@ -131,11 +132,8 @@ fn assert_order<R: Abort + Threads + Wait + Sync>(
     let mut shelf = CrewFiles::new(alloc, &seen, &said.due, &gates)?;
     let log = Log::new(alloc, &seen, may_wait);
     let answer = summed(rt, alloc, said, &mut shelf, &log, &by(workers, 32));
-    assert!(rt;
-        log.has(said.text.as_bytes()),
-        "{letters}, {workers} workers"
-    );
-    assert_eq!(rt; answer, said.answer(), "{letters}, {workers} workers");
+    assert_that_for(rt, (letters, workers), log.has(said.text.as_bytes()));
+    assert_same_for(rt, (letters, workers), answer, said.answer());
     if !said.is_endless {
         let failures = said.failed.saturating_sub(said.bad);
         shelf.assert_asked(rt, &said.names, failures, workers, letters);
@@ -199,8 +197,8 @@ fn assert_held<R: Abort + Threads + Wait + Sync>(
     let mut shelf = CrewFiles::new(alloc, &seen, &said.due, &gates)?;
     let log = Log::new(alloc, &seen, may_wait);
     let answer = summed(rt, alloc, said, &mut shelf, &log, &by(2, 32));
-    assert!(rt; log.has(said.text.as_bytes()), "{first} and {second}");
-    assert_eq!(rt; answer, said.answer());
+    assert_that_for(rt, (first, second), log.has(said.text.as_bytes()));
+    assert_same(rt, answer, said.answer());
     gates.assert(rt, &said.due);
     Ok(())
 }
@@ -269,10 +267,10 @@ fn assert_fault<R: Abort + Threads + Wait + Sync>(
     } else {
         said.answer()
     };
-    assert_eq!(rt; answer, expected);
-    assert!(rt; may_wait || answer.is_err());
-    assert!(rt; log.writes() <= writes_before.saturating_add(1));
-    assert!(rt; log.is_beginning_of(said.text.as_bytes()));
+    assert_same(rt, answer, expected);
+    assert_that(rt, may_wait || answer.is_err());
+    assert_that(rt, log.writes() <= writes_before.saturating_add(1));
+    assert_that(rt, log.is_beginning_of(said.text.as_bytes()));
     Ok(())
 }
 
@@ -306,10 +304,11 @@ fn assert_asked_beyond<R: Abort + Threads + Wait + Sync>(
     log.patience = 500;
     let answer = summed(rt, alloc, said, &mut shelf, &log, &by(2, 1 << 19));
     let looked = seen.looked();
-    assert_eq!(rt; answer, Err(RunFault::WriteFault));
-    assert!(rt;
+    assert_same(rt, answer, Err(RunFault::WriteFault));
+    assert_that_for(
+        rt,
+        (writes_before, looked),
         looked <= writes_before.saturating_add(4),
-        "{writes_before}: {looked}"
     );
     Ok(())
 }

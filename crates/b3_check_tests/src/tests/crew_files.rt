@@ -2,6 +2,7 @@
 
 ghost use Rattle.std.specs.Prelude.{◌≡◌, [], None, false, IfOk};
 
+use super::asserts::{assert_same_for, assert_that_for};
 use crate::tests::recording::give;
 use crate::tests::rendezvous::Rendezvous;
 use b3_check::{CannotRead, NoContent, Shelf, Sink, SinkFailed};
@@ -126,10 +127,11 @@ impl Gates {
         let left = self.left.load(Ordering::SeqCst);
         let first = due.get(self.places[0]).copied().unwrap_or(0);
         let second = due.get(self.places[1]).copied().unwrap_or(0);
-        assert!(rt; met <= first, "{met} of {first}");
-        assert!(rt;
+        assert_that_for(rt, (met, first), met <= first);
+        assert_that_for(
+            rt,
+            (left, first, second),
             left == second || left == first && met == first,
-            "{left} of {first} or {second}"
         );
     }
 }
@@ -207,11 +209,12 @@ impl<'a> CrewFiles<'a> {
         workers: u32,
         row: &str,
     ) {
-        assert!(rt;
+        assert_that_for(
+            rt,
+            (row, workers),
             !self.is_misplaced.load(Ordering::SeqCst),
-            "{row}, {workers} workers"
         );
-        assert_eq!(rt; self.failures, failures, "{row}, {workers} workers");
+        assert_same_for(rt, (row, workers), self.failures, failures);
         for (place, name) in names.iter().enumerate() {
             let (looks, begins) = self.asked(place);
             let is_right = match letter_of(name.as_str()) {
@@ -219,7 +222,7 @@ impl<'a> CrewFiles<'a> {
                 b'q' | b's' | b'm' | b'd' => looks.saturating_add(begins) == 1,
                 _ => looks <= 1 && begins == 1,
             };
-            assert!(rt; is_right, "{row}, {workers} workers: {name}");
+            assert_that_for(rt, (row, workers, name), is_right);
         }
     }
 }
@@ -369,13 +372,11 @@ impl<'a> Log<'a> {
     pub fn assert_writes(&self, rt: &impl Abort, writes: [u64; 2], longest: [usize; 2]) {
         let count = self.writes.get();
         let len = self.longest.get();
-        assert!(rt;
-            writes[0] <= count && len <= longest[1],
-            "{count}, {len} bytes"
-        );
-        assert!(rt;
+        assert_that_for(rt, (count, len), writes[0] <= count && len <= longest[1]);
+        assert_that_for(
+            rt,
+            (count, len),
             !self.is_met.get() || count <= writes[1] && longest[0] <= len,
-            "{count}, {len} bytes"
         );
     }
 

@@ -3,6 +3,7 @@
 
 ghost use Rattle.std.specs.Prelude.{◌≡◌, ◌^◌, ◌<◌, ◌≤◌, IfOk};
 
+use super::asserts::{assert_same_for, assert_that};
 use b3_board::{Gate, OpenGate};
 use b3_check::{
     CheckOptions, Form, MemoryShelf, MemorySink, Operands, RunFault, Shelf, Sink, SumOptions,
@@ -32,9 +33,9 @@ impl Ended {
         out: &[u8],
         err: &[u8],
     ) {
-        assert_eq!(rt; self.answer, answer, "{row}");
-        assert_eq!(rt; self.out.as_slice(), out, "{row}");
-        assert_eq!(rt; self.err.as_slice(), err, "{row}");
+        assert_same_for(rt, row, self.answer, answer);
+        assert_same_for(rt, row, self.out.as_slice(), out);
+        assert_same_for(rt, row, self.err.as_slice(), err);
     }
 }
 
@@ -66,9 +67,9 @@ fn assert_bounds(rt: &impl Abort, workers: u32, turns: u64, largest: u64)
     ensures turns { (1 ≤ turns) × (turns ≤ 2 ^ 40) }
     ensures largest { largest ≤ 2 ^ 30 }
 {
-    assert!(rt; 1 <= workers && workers <= 64);
-    assert!(rt; 1 <= turns && turns <= 1_000_000_000);
-    assert!(rt; largest <= 1_000_000);
+    assert_that(rt, 1 <= workers && workers <= 64);
+    assert_that(rt, 1 <= turns && turns <= 1_000_000_000);
+    assert_that(rt, largest <= 1_000_000);
 }
 
 /// Sums names into these sinks.
@@ -85,9 +86,9 @@ pub fn sum_into<R: Abort + Threads + Wait + Sync, S: Shelf + Send + Sync, O: Sin
     requires out { O.failures out.old < 2 ^ 63 }
     requires err { E.failures err.old < 2 ^ 63 }
 {
-    assert!(rt; names.len() <= 10_000);
-    assert!(rt; !(options.form == Form::Raw && names.len() != 1));
-    assert!(rt; options.length <= 1_048_576 && options.seek <= 1_000);
+    assert_that(rt, names.len() <= 10_000);
+    assert_that(rt, !(options.form == Form::Raw && names.len() != 1));
+    assert_that(rt, options.length <= 1_048_576 && options.seek <= 1_000);
     assert_bounds(rt, options.workers, options.turns, options.largest);
     run_sum(
         rt,
@@ -132,7 +133,10 @@ pub fn sum_behind<R: Abort + Threads + Wait + Sync, S: Shelf + Send + Sync, G: G
     let names = strings(alloc, &[name])?;
     let mut out = MemorySink::new(alloc);
     let mut err = MemorySink::new(alloc);
-    assert!(rt; names.len() == 1 && options.length == 32 && options.seek == 0);
+    assert_that(
+        rt,
+        names.len() == 1 && options.length == 32 && options.seek == 0,
+    );
     assert_bounds(rt, options.workers, options.turns, options.largest);
     let operands = Operands::given(&names);
     let answer = run_sum(
@@ -155,7 +159,7 @@ pub fn check_into<R: Abort + Threads + Wait + Sync, S: Shelf + Send + Sync, O: S
     requires out { O.failures out.old < 2 ^ 63 }
     requires err { E.failures err.old < 2 ^ 63 }
 {
-    assert!(rt; lists.len() <= 10_000);
+    assert_that(rt, lists.len() <= 10_000);
     assert_bounds(rt, options.workers, options.turns, options.largest);
     run_check(
         rt,
@@ -199,7 +203,7 @@ pub fn check_behind<R: Abort + Threads + Wait + Sync, S: Shelf + Send + Sync, G:
     let lists = strings(alloc, &["l"])?;
     let mut out = MemorySink::new(alloc);
     let mut err = MemorySink::new(alloc);
-    assert!(rt; lists.len() == 1);
+    assert_that(rt, lists.len() == 1);
     assert_bounds(rt, options.workers, options.turns, options.largest);
     let operands = Operands::given(&lists);
     let answer = run_check(

@@ -1,5 +1,6 @@
 // Contents of each length around what they are cut into, in each way in which they are given.
 
+use super::asserts::assert_same_for;
 use crate::tests::contents::{
     LONG_SPANS_AND_A_BYTE, REGION_AND_A_BYTE, line_of, lines, name_in, pattern,
 };
@@ -257,7 +258,7 @@ fn a_read_asks_for_as_many_bytes_as_a_file_tells(rt: HostRuntime) -> Result<(), 
         shelf.hint = Some(hint);
         let ended = sum(&rt, rt.alloc(), &mut shelf, &["g1"], &by_workers(1, 1_000))?;
         ended.assert(&rt, line, Ok(tally(1, 0, 0)), text.as_bytes(), b"");
-        assert_eq!(&rt; shelf.asked, asked, "{hint}");
+        assert_same_for(&rt, hint, shelf.asked, asked);
     }
     Ok(())
 }

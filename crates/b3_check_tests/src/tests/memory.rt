@@ -2,6 +2,7 @@
 
 ghost use Rattle.std.specs.Prelude.{◌≡◌, ◌^◌, ◌<◌, ◌≤◌};
 
+use super::asserts::{assert_same, assert_same_for, assert_that, assert_that_for};
 use crate::tests::checks::{THREE_COMPLAINTS, THREE_LINES, THREE_VERDICTS};
 use crate::tests::ended::{check_into, sum_into};
 use crate::tests::{check_options, lines_tally, options, tally};
@@ -29,17 +30,17 @@ impl Asked {
     }
 
     fn begin(&mut self, rt: &impl Abort, name: &str, is_there: bool) {
-        assert!(rt; self.calls < 1_000);
+        assert_that(rt, self.calls < 1_000);
         self.calls += 1;
-        assert_eq!(rt; self.shelf.begin(name).is_ok(), is_there, "{name}");
+        assert_same_for(rt, name, self.shelf.begin(name).is_ok(), is_there);
     }
 
     fn read(&mut self, rt: &impl Abort, most: usize, bytes: &[u8]) {
         let mut buffer = [0; 8];
-        assert!(rt; 1 <= most && most <= 8 && self.calls < 1_000);
+        assert_that(rt, 1 <= most && most <= 8 && self.calls < 1_000);
         self.calls += 1;
-        assert_eq!(rt; self.shelf.read(&mut buffer[..most]), Ok(bytes.len()));
-        assert!(rt; buffer.starts_with(bytes));
+        assert_same(rt, self.shelf.read(&mut buffer[..most]), Ok(bytes.len()));
+        assert_that(rt, buffer.starts_with(bytes));
     }
 }
 
@@ -66,7 +67,7 @@ fn a_refused_put_leaves_the_map_as_it_was(rt: HostRuntime) {
     if is_put || is_replaced {
         asked.read(&rt, 8, if is_replaced { b"new" } else { b"old" });
     }
-    assert!(&rt; is_granted(rt.alloc()), "refused after the last call");
+    assert_that_for(&rt, "refused after the last call", is_granted(rt.alloc()));
 }
 
 // A text, for which memory is asked again where it was refused.
@@ -98,14 +99,14 @@ fn compare_refused(
 ) {
     match answer {
         Ok(given) => {
-            assert_eq!(rt; given, whole);
-            assert_eq!(rt; out.0, out.1);
-            assert_eq!(rt; err.0, err.1);
+            assert_same(rt, given, whole);
+            assert_same(rt, out.0, out.1);
+            assert_same(rt, err.0, err.1);
         }
         Err(fault) => {
-            assert!(rt; matches!(fault, RunFault::Memory | RunFault::WriteFault));
-            assert!(rt; out.1.starts_with(out.0));
-            assert!(rt; err.1.starts_with(err.0));
+            assert_that(rt, matches!(fault, RunFault::Memory | RunFault::WriteFault));
+            assert_that(rt, out.1.starts_with(out.0));
+            assert_that(rt, err.1.starts_with(err.0));
         }
     }
 }
@@ -128,7 +129,7 @@ fn refused_memory_of_a_sum_of_two_files(rt: HostRuntime) -> Result<(), Fail> {
         (out.bytes(), TWO_LINES),
         (err.bytes(), b""),
     );
-    assert!(&rt; is_granted(alloc), "refused after the last call");
+    assert_that_for(&rt, "refused after the last call", is_granted(alloc));
     Ok(())
 }
 
@@ -151,7 +152,7 @@ fn refused_memory_of_a_check_of_three_lines(rt: HostRuntime) -> Result<(), Fail>
         (out.bytes(), THREE_VERDICTS),
         (err.bytes(), THREE_COMPLAINTS),
     );
-    assert!(&rt; is_granted(alloc), "refused after the last call");
+    assert_that_for(&rt, "refused after the last call", is_granted(alloc));
     Ok(())
 }
 
@@ -160,20 +161,20 @@ fn device_calls(rt: &impl Abort, alloc: Global, shelf: &mut MemoryShelf)
     requires { ⟦<MemoryShelf as Shelf>⟧.failures shelf.old < 2 ^ 63 }
 {
     let mut buffer = [1; 2];
-    assert_eq!(rt; shelf.begin("x"), Ok(()));
-    assert_eq!(rt; shelf.read(&mut buffer), Ok(1));
-    assert_eq!(rt; shelf.read(&mut buffer), Ok(0));
-    assert!(rt; shelf.begin("none").is_err());
-    assert!(rt; MemoryShelf::new(alloc).begin("x").is_err());
-    assert!(rt; MemorySink::new(alloc).bytes().is_empty());
+    assert_same(rt, shelf.begin("x"), Ok(()));
+    assert_same(rt, shelf.read(&mut buffer), Ok(1));
+    assert_same(rt, shelf.read(&mut buffer), Ok(0));
+    assert_that(rt, shelf.begin("none").is_err());
+    assert_that(rt, MemoryShelf::new(alloc).begin("x").is_err());
+    assert_that(rt, MemorySink::new(alloc).bytes().is_empty());
 }
 
 // The verdict of a line, a status and a fault's text, which are said to take none.
 fn other_calls(rt: &impl Abort, line: &Line) {
-    assert_eq!(rt; judge(line, &Answer::Digest(line.digest)), Verdict::Good);
-    assert_eq!(rt; judge(line, &Answer::CannotRead), Verdict::Unreadable);
-    assert_eq!(rt; tally(0, 0, 1).status(), 1);
-    assert_eq!(rt; RunFault::Memory.text(), "b3sum: out of memory");
+    assert_same(rt, judge(line, &Answer::Digest(line.digest)), Verdict::Good);
+    assert_same(rt, judge(line, &Answer::CannotRead), Verdict::Unreadable);
+    assert_same(rt, tally(0, 0, 1).status(), 1);
+    assert_same(rt, RunFault::Memory.text(), "b3sum: out of memory");
 }
 
 // Puts a file on a shelf and reads a line, then perhaps makes these calls.

@@ -1,6 +1,7 @@
 // Many names in no order: what is written of them is the same by any number of workers, one after the other and beside
 // one another, and each name that is not hashed beside others, nor missing there, is begun once, in its turn.
 
+use super::asserts::{assert_same, assert_same_for};
 use crate::tests::contents::pattern;
 use crate::tests::ended::{check, strings, sum, sum_into};
 use crate::tests::lettered_files::{Access, LetteredFiles, number_in};
@@ -102,9 +103,9 @@ impl Texts {
         err: &[u8],
     ) {
         let counts = tally(self.ok, self.failed, 0);
-        assert_eq!(rt; answer, Ok(counts), "{workers} workers");
-        assert_eq!(rt; out, self.lines.as_slice(), "{workers} workers");
-        assert_eq!(rt; err, self.complaints.as_bytes(), "{workers} workers");
+        assert_same_for(rt, workers, answer, Ok(counts));
+        assert_same_for(rt, workers, out, self.lines.as_slice());
+        assert_same_for(rt, workers, err, self.complaints.as_bytes());
     }
 }
 
@@ -150,8 +151,8 @@ fn assert_sum<R: Abort + Threads + Wait + Sync>(
     };
     let answer = sum_into(rt, alloc, &mut shelf, names, &mut out, &mut err, &asked);
     texts.assert_sum(rt, workers, answer, out.bytes(), err.bytes());
-    assert_eq!(rt; shelf.failures(), texts.failed);
-    assert_eq!(rt; shelf.begun(), begun.as_bytes());
+    assert_same(rt, shelf.failures(), texts.failed);
+    assert_same(rt, shelf.begun(), begun.as_bytes());
 }
 
 // Checks the list of their lines, each before one that is malformed.
@@ -180,7 +181,7 @@ fn assert_check<R: Abort + Threads + Wait + Sync>(
         verdicts,
         texts.warnings.as_bytes(),
     );
-    assert_eq!(rt; shelf.failures(), texts.failed);
+    assert_same(rt, shelf.failures(), texts.failed);
     Ok(())
 }
 
@@ -244,9 +245,9 @@ struct Came {
 impl Came {
     // The run answered this, wrote just these bytes, and began these names.
     fn assert(&self, rt: &impl Abort, answer: Result<Tally, RunFault>, out: &[u8], begun: &[u8]) {
-        assert_eq!(rt; self.answer, answer);
-        assert_eq!(rt; self.begun.as_slice(), begun);
-        assert_eq!(rt; self.out.as_slice(), out);
+        assert_same(rt, self.answer, answer);
+        assert_same(rt, self.begun.as_slice(), begun);
+        assert_same(rt, self.out.as_slice(), out);
     }
 }
 
@@ -296,7 +297,7 @@ fn a_write_that_fails_ends_the_run(rt: HostRuntime) -> Result<(), Fail> {
         let came = sum_few(&rt, rt.alloc(), &["g3000", "m1", "g1"], taken)?;
         let fault = Err(RunFault::WriteFault);
         came.assert(&rt, fault, &line[..taken], b"g3000\n");
-        assert_eq!(&rt; came.failures, 0);
+        assert_same(&rt, came.failures, 0);
     }
     Ok(())
 }
@@ -310,7 +311,7 @@ fn a_fault_comes_after_the_line(rt: HostRuntime) -> Result<(), Fail> {
     let came = sum_few(&rt, rt.alloc(), &names, 1_000)?;
     let fault = Err(RunFault::EndlessInput);
     came.assert(&rt, fault, &line, b"g3000\ng3001\n");
-    assert_eq!(&rt; came.failures, 0);
+    assert_same(&rt, came.failures, 0);
     Ok(())
 }
 
@@ -329,8 +330,8 @@ fn a_content_beside_others_is_not_too_long(rt: HostRuntime) -> Result<(), Fail> 
         let mut shelf = LetteredFiles::new(rt.alloc(), b"", b"", Access::Beside);
         let names = &names[..count.min(8)];
         let ended = sum(&rt, rt.alloc(), &mut shelf, names, &options(turns, 0))?;
-        assert_eq!(&rt; ended.answer, Ok(tally(count as u64, 0, 0)));
-        assert_eq!(&rt; shelf.max_len(), max_len, "{count} names, {turns} reads");
+        assert_same(&rt, ended.answer, Ok(tally(count as u64, 0, 0)));
+        assert_same_for(&rt, (count, turns), shelf.max_len(), max_len);
     }
     Ok(())
 }

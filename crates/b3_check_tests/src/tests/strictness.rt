@@ -1,6 +1,7 @@
 // Checks with the options that say what is passed over, what is strict and what is said: each text where it is due
 // and where it is not.
 
+use super::asserts::assert_same;
 use crate::tests::check_options;
 use crate::tests::ended::check_files;
 use b3_check::{CheckOptions, Tally};
@@ -224,8 +225,8 @@ fn each_text_where_it_is_due(rt: HostRuntime) -> Result<(), Fail> {
     for row in rows() {
         assert_row(&rt, rt.alloc(), row)?;
     }
-    assert_eq!(&rt; tally_of([1, 0, 0, 0, 1, 0]).status(), 0);
-    assert_eq!(&rt; tally_of([0, 0, 0, 0, 0, 1]).status(), 1);
+    assert_same(&rt, tally_of([1, 0, 0, 0, 1, 0]).status(), 0);
+    assert_same(&rt, tally_of([0, 0, 0, 0, 0, 1]).status(), 1);
     Ok(())
 }
 

@@ -1,5 +1,6 @@
 // Runs that write digests.
 
+use super::asserts::{assert_same, assert_same_for, assert_that_for};
 use crate::tests::contents::pattern;
 use crate::tests::ended::{Ended, sum, sum_files, sum_into};
 use crate::tests::failing::EndlessFile;
@@ -19,9 +20,9 @@ fn a_name_that_is_not_there_does_not_end_the_run(rt: HostRuntime) -> Result<(), 
     let ended = sum_files(&rt, alloc, &[("e", b"")], &names, &options(1, 0))?;
     let complaint = b"b3sum: p: cannot read\n";
     ended.assert(&rt, "p, e", Ok(tally(1, 1, 0)), line.as_bytes(), complaint);
-    assert_eq!(&rt; tally(1, 1, 0).status(), 1);
-    assert_eq!(&rt; tally(1, 0, 0).status(), 0);
-    assert_eq!(&rt; tally(1, 0, 1).status(), 1);
+    assert_same(&rt, tally(1, 1, 0).status(), 1);
+    assert_same(&rt, tally(1, 0, 0).status(), 0);
+    assert_same(&rt, tally(1, 0, 1).status(), 1);
     Ok(())
 }
 
@@ -114,11 +115,11 @@ fn assert_output<R: AllocGlobal + Abort + Threads + Wait + Sync>(
     asked.length = length;
     let ended = sum_files(rt, rt.alloc(), &[("-", b"")], &["-"], &asked)?;
     let out = ended.out.as_slice();
-    assert_eq!(rt; ended.answer, Ok(tally(1, 0, 0)), "{length} bytes");
-    assert_eq!(rt; out.len(), 2 * length as usize + 4, "{length} bytes");
-    assert!(rt; out.starts_with(digits.as_bytes()), "{length} bytes");
-    assert!(rt; out.ends_with(b"  -\n"), "{length} bytes");
-    assert!(rt; ended.err.is_empty(), "{length} bytes");
+    assert_same_for(rt, length, ended.answer, Ok(tally(1, 0, 0)));
+    assert_same_for(rt, length, out.len(), 2 * length as usize + 4);
+    assert_that_for(rt, length, out.starts_with(digits.as_bytes()));
+    assert_that_for(rt, length, out.ends_with(b"  -\n"));
+    assert_that_for(rt, length, ended.err.is_empty());
     Ok(())
 }
 
@@ -195,8 +196,8 @@ fn a_key_may_take_more_reads_than_a_file(rt: HostRuntime) -> Result<(), Fail> {
         let mut asked = options(1, 32);
         asked.key = KeyChoice::Keyed;
         let ended = sum(&rt, alloc, &mut shelf, &[name], &asked)?;
-        assert_eq!(&rt; ended.answer, expected, "{name}");
-        assert!(&rt; ended.err.is_empty(), "{name}");
+        assert_same_for(&rt, name, ended.answer, expected);
+        assert_that_for(&rt, name, ended.err.is_empty());
     }
     Ok(())
 }

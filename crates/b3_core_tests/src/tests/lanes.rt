@@ -4,6 +4,7 @@ ghost use Rattle.std.specs.Prelude.{◌≡◌, ◌+◌, ◌*◌, ◌^◌, ◌<�
 ghost use Rattle.b3_core.specs.Tree.{IsTop, chunks, top};
 ghost use Rattle.b3_core.specs.declared.nodes.Node.{Node};
 
+use super::asserts::assert_same_for;
 use super::vectors::{KEY, pattern};
 use b3_core::{
     BLOCK_LEN, CHUNK_LEN, Mode, Node, chain_blocks, chain_chunks, chain_chunks_beside, chunk_node,
@@ -178,23 +179,25 @@ fn assert_beside(
     let lists = chain_chunks_beside(mode, first, bytes, count, blocks);
     for j in 0..count {
         let chunk = &bytes[CHUNK_LEN * j..CHUNK_LEN * j + CHUNK_LEN];
-        assert_eq!(rt;
+        assert_same_for(
+            rt,
+            (j, count, first, blocks),
             lists[j],
             chunk_node(mode, first + j as u64, chunk).chaining(),
-            "chunk {j} of {count} from {first} on, beside {blocks} blocks"
         );
     }
     let (_, last) = bytes.split_at(CHUNK_LEN * count);
-    assert_eq!(rt;
+    assert_same_for(
+        rt,
+        (blocks, count, first),
         lists[count],
         chain_blocks(
             mode,
             first + count as u64,
             0,
             &mode.key,
-            &last[..BLOCK_LEN * blocks]
+            &last[..BLOCK_LEN * blocks],
         ),
-        "{blocks} blocks beside {count} chunks from {first} on"
     );
 }
 
@@ -219,10 +222,11 @@ fn eight_output_blocks(rt: HostRuntime) {
         let mut blocks = [0; 512];
         node.blocks8(first, &mut blocks);
         for j in 0..8usize {
-            assert_eq!(rt;
-                blocks[64 * j..64 * j + 64],
-                node.block(first + j as u64)[..],
-                "block {j} from {first} on"
+            assert_same_for(
+                &rt,
+                (j, first),
+                &blocks[64 * j..64 * j + 64],
+                &node.block(first + j as u64)[..],
             );
         }
     }
@@ -235,10 +239,11 @@ fn eight_compressions_of_one_block(rt: HostRuntime) {
     let numbers = [0, 1, 2, u64::MAX, 1 << 32, 5, 6, (1 << 32) - 1];
     let outputs = compress8(&[node.h; 8], &[node.m; 8], &numbers, node.b, node.d);
     for j in 0..8usize {
-        assert_eq!(rt;
+        assert_same_for(
+            &rt,
+            j,
             outputs[j],
             compress(&node.h, &node.m, numbers[j], node.b, node.d),
-            "lane {j}"
         );
     }
 }

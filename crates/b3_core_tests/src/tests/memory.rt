@@ -1,5 +1,6 @@
 // No call takes memory.
 
+use super::asserts::{assert_same, assert_that, assert_that_for};
 use super::vectors::KEY;
 use b3_core::{
     BLOCK_LEN, CHUNK_LEN, Mode, Node, Span, block_node, chain_blocks, chain_chunks,
@@ -22,38 +23,41 @@ fn nodes_take_no_memory(rt: HostRuntime) {
         chunk.b,
         chunk.d,
     );
-    assert_eq!(rt; all[7], words);
+    assert_same(&rt, all[7], words);
     let chainings = chain8(&mode, 5, &eight);
-    assert_eq!(rt; chainings[0], chunk.chaining());
-    assert_eq!(rt; chain_chunks(&mode, 5, &eight[..3000])[1], chainings[1]);
+    assert_same(&rt, chainings[0], chunk.chaining());
+    assert_same(&rt, chain_chunks(&mode, 5, &eight[..3000])[1], chainings[1]);
     let beside = chain_chunks_beside(&mode, 5, &eight, 5, 1);
-    assert_eq!(rt; beside[1], chainings[1]);
+    assert_same(&rt, beside[1], chainings[1]);
     let parent = parent_node(&mode, &chainings[0], &chainings[1]);
-    assert_eq!(rt; top(&mode, 5, &eight[..2048]), parent);
-    assert_eq!(rt; top(&mode, 5, &eight).d, 4 | 16);
+    assert_same(&rt, top(&mode, 5, &eight[..2048]), parent);
+    assert_same(&rt, top(&mode, 5, &eight).d, 4 | 16);
     let mut blocks = [0; 512];
     parent.blocks8(0, &mut blocks);
-    assert_eq!(rt; blocks[64..128], parent.block(1)[..]);
+    assert_same(&rt, &blocks[64..128], &parent.block(1)[..]);
     let (block, _) = bytes.split_at(BLOCK_LEN);
     let open = block_node(&mode, 5, 0, &mode.key, block);
-    assert_eq!(rt;
+    assert_same(
+        &rt,
         chain_blocks(&mode, 5, 0, &mode.key, block),
-        open.chaining()
+        open.chaining(),
     );
     let mut value = mode.key;
     chain_onto(&mode, 5, 0, &mut value, block);
-    assert_eq!(rt; value, open.chaining());
+    assert_same(&rt, value, open.chaining());
     let last = last_block_node(&mode, 5, 0, &mode.key, block);
-    assert_eq!(rt;
+    assert_same(
+        &rt,
         last,
         Node {
             d: 1 | 2 | 16,
             ..open
-        }
+        },
     );
-    assert!(rt;
+    assert_that_for(
+        &rt,
+        "refused after the last call",
         String::from_str(rt.alloc(), "x").is_ok(),
-        "refused after the last call"
     );
 }
 
@@ -65,13 +69,14 @@ fn trees_and_modes_take_no_memory(rt: HostRuntime) {
         Mode::context().flag,
         Mode::material(KEY).flag,
     ];
-    assert_eq!(rt; flags, [0, 16, 32, 64]);
-    assert_eq!(rt; (chunks(5_000), left(5)), (5, 4));
+    assert_same(&rt, flags, [0, 16, 32, 64]);
+    assert_same(&rt, (chunks(5_000), left(5)), (5, 4));
     let (four, one) = (Span { first: 0, count: 4 }, Span { first: 4, count: 1 });
-    assert!(rt; is_subtree(5, one));
-    assert_eq!(rt; sibling(5, one), Some(four));
-    assert!(rt;
+    assert_that(&rt, is_subtree(5, one));
+    assert_same(&rt, sibling(5, one), Some(four));
+    assert_that_for(
+        &rt,
+        "refused after the last call",
         String::from_str(rt.alloc(), "x").is_ok(),
-        "refused after the last call"
     );
 }

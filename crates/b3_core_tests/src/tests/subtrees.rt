@@ -2,6 +2,7 @@
 
 ghost use Rattle.std.specs.Prelude.{◌≡◌};
 
+use super::asserts::{assert_same_for, assert_that};
 use b3_core::{Span, is_subtree, sibling};
 use std::process::Abort;
 
@@ -13,13 +14,13 @@ fn span(first: u64, count: u64) -> Span
 }
 
 fn assert_sibling(rt: &impl Abort, n: u64, of: Span, want: Option<Span>) {
-    assert!(rt; 1 <= n && n <= 1 << 54);
-    assert_eq!(rt; sibling(n, of), want, "{n} chunks");
+    assert_that(rt, 1 <= n && n <= 1 << 54);
+    assert_same_for(rt, n, sibling(n, of), want);
 }
 
 fn assert_subtree(rt: &impl Abort, n: u64, of: Span, want: bool) {
-    assert!(rt; 1 <= n && n <= 1 << 54);
-    assert_eq!(rt; is_subtree(n, of), want, "{n} chunks");
+    assert_that(rt, 1 <= n && n <= 1 << 54);
+    assert_same_for(rt, n, is_subtree(n, of), want);
 }
 
 #[test]

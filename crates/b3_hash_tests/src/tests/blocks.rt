@@ -3,6 +3,7 @@
 
 ghost use Rattle.std.specs.Prelude.{◌≤◌, length};
 
+use super::asserts::assert_same_for;
 use super::{assert_digest, pattern, update};
 use b3_core::{BLOCK_LEN, CHUNK_LEN, Mode, Node, block_node, last_block_node, parent_node};
 use b3_hash::{Hasher, hash, keyed_hash};
@@ -62,7 +63,7 @@ fn assert_lengths(rt: &impl Abort, all: &[u8], from: usize, to: usize)
     for len in from..to {
         let (bytes, _) = all.split_at(len);
         let want = digest_plain(&Mode::hash(), bytes);
-        assert_eq!(rt; hash(bytes), want, "{len} bytes at once");
+        assert_same_for(rt, len, hash(bytes), want);
         for first in [
             0usize, 1, 63, 64, 65, 127, 128, 129, 192, 511, 959, 960, 961, 1023, 1024, 1025,
         ] {
@@ -102,10 +103,11 @@ fn keyed_hashes_of_up_to_two_chunks(rt: HostRuntime) -> Result<(), Fail> {
     let key = b"whats the Elvish word for friend";
     for len in 0..2049usize {
         let (bytes, _) = all.split_at(len);
-        assert_eq!(rt;
+        assert_same_for(
+            &rt,
+            len,
             keyed_hash(key, bytes),
             digest_plain(&Mode::keyed(key), bytes),
-            "{len} bytes"
         );
     }
     Ok(())

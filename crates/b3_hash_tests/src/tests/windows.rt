@@ -2,6 +2,7 @@
 
 ghost use Rattle.std.specs.Prelude.{◌≡◌, ◌≤◌, length};
 
+use super::asserts::{assert_same, assert_same_for, assert_that};
 use super::{assert_digest, assert_tree, digest_of, pattern, update};
 use b3_core::{Mode, parent_node, top};
 use b3_hash::{Hasher, TooLong, WindowFault, hash};
@@ -29,9 +30,9 @@ fn push(rt: &impl Abort, hasher: &mut Hasher, bytes: &[u8], level: u32)
     requires { length bytes.now ≤ 65536 }
 {
     let first = hasher.len() / 1024;
-    assert!(rt; first < 1 << 30);
+    assert_that(rt, first < 1 << 30);
     let node = top(&Mode::hash(), first, bytes);
-    assert_eq!(rt; hasher.push_window(node, level), Ok(()));
+    assert_same(rt, hasher.push_window(node, level), Ok(()));
 }
 
 // Alone, and followed by one byte more: the root is then the parent of both.
@@ -41,18 +42,18 @@ fn a_window_of_16_mebibytes(rt: HostRuntime) -> Result<(), Fail> {
     let (window, byte) = all.split_at(16_777_216);
     let node = top(&Mode::hash(), 0, window);
     let mut hasher = Hasher::new(Mode::hash());
-    assert_eq!(rt; hasher.push_window(node, 14), Ok(()));
+    assert_same(&rt, hasher.push_window(node, 14), Ok(()));
     assert_digest(&rt, &hasher, &DIGEST_OF_16_MIB, "the window");
     let len = hasher.len();
-    assert!(rt; len % 1024 == 0);
+    assert_that(&rt, len % 1024 == 0);
     let byte_node = top(&Mode::hash(), 16_384, byte);
     let last = hasher.finish_with(byte_node);
-    assert_eq!(rt; digest_of(&rt, last), DIGEST_OF_16_MIB_AND_1);
+    assert_same(&rt, digest_of(&rt, last), DIGEST_OF_16_MIB_AND_1);
     let parent = parent_node(&Mode::hash(), &node.chaining(), &byte_node.chaining());
-    assert_eq!(rt; top(&Mode::hash(), 0, &all), parent);
+    assert_same(&rt, top(&Mode::hash(), 0, &all), parent);
     update(&rt, &mut hasher, byte);
     assert_digest(&rt, &hasher, &DIGEST_OF_16_MIB_AND_1, "and then 1");
-    assert_eq!(rt; hash(&all), DIGEST_OF_16_MIB_AND_1);
+    assert_same(&rt, hash(&all), DIGEST_OF_16_MIB_AND_1);
     Ok(())
 }
 
@@ -60,9 +61,9 @@ fn a_window_of_16_mebibytes(rt: HostRuntime) -> Result<(), Fail> {
 #[test]
 fn hashes_of_16_mebibytes(rt: HostRuntime) -> Result<(), Fail> {
     let window = pattern(rt.alloc(), 16_777_216)?;
-    assert_eq!(rt; hash(&window), DIGEST_OF_16_MIB);
+    assert_same(&rt, hash(&window), DIGEST_OF_16_MIB);
     let (less, _) = window.split_at(16_777_215);
-    assert_eq!(rt; hash(less), DIGEST_OF_16_MIB_LESS_1);
+    assert_same(&rt, hash(less), DIGEST_OF_16_MIB_LESS_1);
     Ok(())
 }
 
@@ -70,16 +71,20 @@ fn hashes_of_16_mebibytes(rt: HostRuntime) -> Result<(), Fail> {
 fn windows_up_to_the_greatest_length(rt: HostRuntime) {
     let node = top(&Mode::hash(), 0, &[]);
     let mut hasher = Hasher::new(Mode::hash());
-    assert_eq!(rt; hasher.push_window(node, 54), Err(WindowFault::Unaligned));
+    assert_same(
+        &rt,
+        hasher.push_window(node, 54),
+        Err(WindowFault::Unaligned),
+    );
     for level in (0..54u32).rev() {
-        assert_eq!(rt; hasher.push_window(node, level), Ok(()), "level {level}");
+        assert_same_for(&rt, level, hasher.push_window(node, level), Ok(()));
     }
-    assert_eq!(rt; hasher.len(), u64::MAX - 1023);
-    assert_eq!(rt; hasher.push_window(node, 0), Err(WindowFault::TooLong));
-    assert_eq!(rt; hasher.update(&[7; 1023]), Ok(()));
-    assert_eq!(rt; hasher.len(), u64::MAX);
-    assert_eq!(rt; hasher.update(&[7]), Err(TooLong));
-    assert_eq!(rt; hasher.len(), u64::MAX);
+    assert_same(&rt, hasher.len(), u64::MAX - 1023);
+    assert_same(&rt, hasher.push_window(node, 0), Err(WindowFault::TooLong));
+    assert_same(&rt, hasher.update(&[7; 1023]), Ok(()));
+    assert_same(&rt, hasher.len(), u64::MAX);
+    assert_same(&rt, hasher.update(&[7]), Err(TooLong));
+    assert_same(&rt, hasher.len(), u64::MAX);
 }
 
 // Takes in `skip` bytes by an update, then the next 2^level chunks as a window.
@@ -114,7 +119,7 @@ fn windows_among_bytes(rt: HostRuntime) -> Result<(), Fail> {
     }
     let (_, rest) = all.split_at((hasher.len() as usize).min(30_000));
     update(&rt, &mut hasher, rest);
-    assert_eq!(rt; hasher.len(), 30_000);
+    assert_same(&rt, hasher.len(), 30_000);
     assert_so_far(&rt, &hasher, &all);
     Ok(())
 }
@@ -128,13 +133,9 @@ fn assert_finish_with(rt: &impl Abort, hasher: &Hasher, all: &[u8], last: usize)
     let (window, _) = rest.split_at(last);
     let (whole, _) = all.split_at(12_288 + last);
     let len = hasher.len();
-    assert!(rt; len % 1024 == 0);
+    assert_that(rt, len % 1024 == 0);
     let output = hasher.finish_with(top(&Mode::hash(), 12, window));
-    assert_eq!(rt;
-        digest_of(rt, output),
-        hash(whole),
-        "a last window of {last} bytes"
-    );
+    assert_same_for(rt, last, digest_of(rt, output), hash(whole));
 }
 
 #[test]
@@ -159,8 +160,12 @@ fn a_last_window(rt: HostRuntime) -> Result<(), Fail> {
 #[test]
 fn texts_of_the_refusals(rt: HostRuntime) -> Result<(), Fail> {
     let text = WindowFault::Unaligned.to_string(rt.alloc())?;
-    assert_eq!(rt; text.as_str(), "the window is at no multiple of its length");
+    assert_same(
+        &rt,
+        text.as_str(),
+        "the window is at no multiple of its length",
+    );
     let text = WindowFault::TooLong.to_string(rt.alloc())?;
-    assert_eq!(rt; text.as_str(), "the input has 2^64 bytes or more");
+    assert_same(&rt, text.as_str(), "the input has 2^64 bytes or more");
     Ok(())
 }

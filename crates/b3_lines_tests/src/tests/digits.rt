@@ -1,5 +1,6 @@
 // The digits of lines beside those of the crate `hex`, and the names that are searched once more.
 
+use super::asserts::{assert_same, assert_same_for, assert_that, assert_that_for};
 use super::{DIGITS, assert_fault};
 use b3_lines::{LineFault, holds_bad_character, read_line, write_line};
 use hex::FromHex;
@@ -20,7 +21,7 @@ fn assert_digit(rt: &impl Abort, alloc: Global, place: usize, byte: u8) -> Resul
     };
     text.extend_from_slice(b"  x")?;
     let found = read_line(alloc, &text).map(|line| line.digest);
-    assert!(rt; found == want, "{byte} at {place}");
+    assert_that_for(rt, (byte, place), found == want);
     Ok(())
 }
 
@@ -44,7 +45,7 @@ fn assert_digits(rt: &impl Abort, alloc: Global, len: usize) -> Result<(), Fail>
     let mut want = hex::encode(alloc, &bytes)?;
     want.push_str("  x\n")?;
     let line = write_line(alloc, &bytes, "x")?;
-    assert_eq!(rt; line.as_slice(), want.as_bytes());
+    assert_same(rt, line.as_slice(), want.as_bytes());
     Ok(())
 }
 
@@ -70,16 +71,12 @@ fn assert_bad(
     }
     name.push_str(character)?;
     let name = name.as_bytes();
-    assert_eq!(rt;
-        holds_bad_character(name),
-        bad,
-        "{letters} before {character:?}"
-    );
+    assert_same_for(rt, (letters, character), holds_bad_character(name), bad);
     let mut line = Vec::from_slice(alloc, DIGITS.as_bytes())?;
     line.extend_from_slice(b"  ")?;
     line.extend_from_slice(name)?;
     match read_line(alloc, &line) {
-        Ok(_) => assert!(rt; !bad),
+        Ok(_) => assert_that(rt, !bad),
         Err(fault) => assert_fault(rt, Some(fault), LineFault::BadCharacter, &line),
     }
     Ok(())

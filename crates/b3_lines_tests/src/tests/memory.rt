@@ -1,5 +1,6 @@
 // What is answered where a growth is refused.
 
+use super::asserts::{assert_same, assert_that, assert_that_for};
 use super::{assert_says, digest};
 use b3_lines::{
     LineFault, holds_bad_character, lines, read_line, shown_name, write_line, write_tagged,
@@ -27,9 +28,10 @@ macro_rules! answered {
 
 /// Asserts that a further growth is not refused: each before it was a call's.
 fn assert_over(rt: &impl Abort, alloc: Global) {
-    assert!(rt;
+    assert_that_for(
+        rt,
+        "refused after the last call",
         String::from_str(alloc, "x").is_ok(),
-        "refused after the last call"
     );
 }
 
@@ -38,7 +40,7 @@ fn assert_over(rt: &impl Abort, alloc: Global) {
 fn refused_memory_for_a_plain_line(rt: HostRuntime) -> Result<(), Fail> {
     let alloc = rt.alloc();
     let line = answered!(write_line(alloc, &digest(&rt), "a\\b\nc"))?;
-    assert_eq!(rt; line.as_slice(), PLAIN_LINE.as_slice());
+    assert_same(&rt, line.as_slice(), PLAIN_LINE.as_slice());
     assert_over(&rt, alloc);
     Ok(())
 }
@@ -47,7 +49,7 @@ fn refused_memory_for_a_plain_line(rt: HostRuntime) -> Result<(), Fail> {
 fn refused_memory_for_a_tagged_line(rt: HostRuntime) -> Result<(), Fail> {
     let alloc = rt.alloc();
     let line = answered!(write_tagged(alloc, &digest(&rt), "a\\b\nc"))?;
-    assert_eq!(rt; line.as_slice(), TAGGED_LINE.as_slice());
+    assert_same(&rt, line.as_slice(), TAGGED_LINE.as_slice());
     assert_over(&rt, alloc);
     Ok(())
 }
@@ -55,9 +57,10 @@ fn refused_memory_for_a_tagged_line(rt: HostRuntime) -> Result<(), Fail> {
 #[test]
 fn refused_memory_for_a_line_that_is_read(rt: HostRuntime) -> Result<(), Fail> {
     let alloc = rt.alloc();
-    assert_eq!(rt;
+    assert_same(
+        &rt,
         answered!(read_line(alloc, &PLAIN_LINE[..66])).err(),
-        Some(LineFault::Short)
+        Some(LineFault::Short),
     );
     let line = answered!(read_line(alloc, &PLAIN_LINE[..74]))?;
     assert_says(&rt, &line, "a\\b\nc", "\\a\\\\b\\nc");
@@ -78,7 +81,7 @@ fn refused_memory_for_a_tagged_line_that_is_read(rt: HostRuntime) -> Result<(), 
 fn refused_memory_for_a_name_that_is_shown(rt: HostRuntime) -> Result<(), Fail> {
     let alloc = rt.alloc();
     let shown = answered!(shown_name(alloc, "a\\b\nc"))?;
-    assert_eq!(rt; shown.as_str(), "\\a\\\\b\\nc");
+    assert_same(&rt, shown.as_str(), "\\a\\\\b\\nc");
     assert_over(&rt, alloc);
     Ok(())
 }
@@ -88,15 +91,15 @@ fn refused_memory_for_a_name_that_is_shown(rt: HostRuntime) -> Result<(), Fail> 
 fn lines_and_refusals_take_no_memory(rt: HostRuntime) {
     let alloc = rt.alloc();
     let digest = digest(&rt);
-    assert_eq!(rt; lines(b"a\n\nb").count(), 3);
-    assert_eq!(rt; LineFault::Short.reason(), "short line");
-    assert!(rt; holds_bad_character(b"\0"));
+    assert_same(&rt, lines(b"a\n\nb").count(), 3);
+    assert_same(&rt, LineFault::Short.reason(), "short line");
+    assert_that(&rt, holds_bad_character(b"\0"));
     for name in ["", "\0"] {
-        assert!(rt; write_line(alloc, &digest, name).is_err());
-        assert!(rt; write_tagged(alloc, &digest, name).is_err());
+        assert_that(&rt, write_line(alloc, &digest, name).is_err());
+        assert_that(&rt, write_tagged(alloc, &digest, name).is_err());
     }
     for line in ["", "\\", "BLAKE3 (", "\u{FFFD}"] {
-        assert!(rt; read_line(alloc, line.as_bytes()).is_err());
+        assert_that(&rt, read_line(alloc, line.as_bytes()).is_err());
     }
     assert_over(&rt, alloc);
 }

@@ -1,5 +1,6 @@
 // Lines as they are written, and read back.
 
+use super::asserts::{assert_same, assert_same_for};
 use super::{assert_fault, assert_says, digest, line_of};
 use b3_lines::{LineFault, read_line, shown_name, write_line, write_tagged};
 use std::alloc::{AllocError, Global};
@@ -16,15 +17,15 @@ fn assert_written(
     len: usize,
 ) -> Result<(), AllocError> {
     let want = line_of(alloc, before, after)?;
-    assert_eq!(rt; line.as_slice(), want.as_slice());
+    assert_same(rt, line.as_slice(), want.as_slice());
     assert_exact(rt, line, len);
     Ok(())
 }
 
 /// Asserts that a line has so many bytes, and no more room.
 fn assert_exact(rt: &impl Abort, line: &Vec<u8>, len: usize) {
-    assert_eq!(rt; line.len(), len);
-    assert_eq!(rt; line.capacity(), len, "one growth, of the exact length");
+    assert_same(rt, line.len(), len);
+    assert_same_for(rt, "one growth, of the exact length", line.capacity(), len);
 }
 
 /// Asserts that the plain line of this name is `before`, the digits and `after`, of `len` bytes.
@@ -69,16 +70,26 @@ fn a_name_with_a_backslash_and_a_line_feed(rt: HostRuntime) -> Result<(), Fail> 
     let text = line_of(alloc, b"\\", b"  a\\\\b\\nc")?;
     let line = read_line(alloc, &text)?;
     assert_says(&rt, &line, "a\\b\nc", "\\a\\\\b\\nc");
-    assert_eq!(rt; line.name.capacity(), 5, "one growth, of the exact length");
-    assert_eq!(rt; line.shown.capacity(), 8, "one growth, of the exact length");
+    assert_same_for(
+        &rt,
+        "one growth, of the exact length",
+        line.name.capacity(),
+        5,
+    );
+    assert_same_for(
+        &rt,
+        "one growth, of the exact length",
+        line.shown.capacity(),
+        8,
+    );
     Ok(())
 }
 
 #[test]
 fn how_it_is_shown(rt: HostRuntime) -> Result<(), Fail> {
     let shown = shown_name(rt.alloc(), "a\\b\nc")?;
-    assert_eq!(rt; shown.as_str(), "\\a\\\\b\\nc");
-    assert_eq!(rt; shown.capacity(), 8, "one growth, of the exact length");
+    assert_same(&rt, shown.as_str(), "\\a\\\\b\\nc");
+    assert_same_for(&rt, "one growth, of the exact length", shown.capacity(), 8);
     Ok(())
 }
 
@@ -88,7 +99,7 @@ fn lines_as_they_are_written(rt: HostRuntime) -> Result<(), Fail> {
     assert_plain(&rt, alloc, "x\r", b"\\", b"  x\\r\n", 71)?;
     assert_plain(&rt, alloc, "-", b"", b"  -\n", 68)?;
     let no_digits = write_line(alloc, &[], "x")?;
-    assert_eq!(rt; no_digits.as_slice(), b"  x\n".as_slice());
+    assert_same(&rt, no_digits.as_slice(), b"  x\n".as_slice());
     Ok(())
 }
 
@@ -100,7 +111,7 @@ fn tagged_lines_as_they_are_written(rt: HostRuntime) -> Result<(), Fail> {
     assert_tagged(&rt, alloc, "a) = b", b"BLAKE3 (a) = b) = ", 83)?;
     assert_tagged(&rt, alloc, "x\r\n", b"\\BLAKE3 (x\\r\\n) = ", 83)?;
     let no_digits = write_tagged(alloc, &[], "x")?;
-    assert_eq!(rt; no_digits.as_slice(), b"BLAKE3 (x) = \n".as_slice());
+    assert_same(&rt, no_digits.as_slice(), b"BLAKE3 (x) = \n".as_slice());
     Ok(())
 }
 

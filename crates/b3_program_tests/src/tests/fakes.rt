@@ -3,6 +3,7 @@
 ghost use Rattle.std.specs.Prelude.{◌≡◌, true, is_err};
 ghost use Rattle.std.specs.Io.{ReadsAtMost};
 
+use super::asserts::assert_that_for;
 use b3_files::NamedFile;
 use std::alloc::Allocator;
 use std::fs::{FileTimes, Metadata, OpenFile, OpenOptions, Permissions};
@@ -286,16 +287,17 @@ impl<'a, R: Abort> Files for FakeFiles<'a, R> {
     type Dir = FakeFile<'a, R>;
 
     fn open_file(&self, how: &OpenOptions, path: &str) -> io::Result<FakeFile<'a, R>> {
-        assert!(self.rt;
+        assert_that_for(
+            self.rt,
+            path,
             how.asks_read()
                 && !how.asks_write()
                 && !how.asks_append()
                 && !how.asks_truncate()
                 && !how.asks_create()
                 && !how.asks_create_new(),
-            "{path} is not opened for reading alone"
         );
-        assert!(self.rt; path != FIFO, "it would wait");
+        assert_that_for(self.rt, "it would wait", path != FIFO);
         if path == self.system.closed {
             return Err(io::Error::from(ErrorKind::PermissionDenied));
         }

@@ -1,5 +1,6 @@
 // The files of a shelf of real files.
 
+use super::asserts::assert_that;
 use super::fakes::{Reads, System};
 use super::steps::Step::{Begin, HashWhole, Lacks, LenHint, Read, ReadAt, Rest};
 use super::steps::{assert_files, assert_real, digest_of};
@@ -163,7 +164,7 @@ fn a_file_is_looked_at_piece_by_piece(rt: HostRuntime) -> Result<(), Fail> {
     let mut hasher = Hasher::new(Mode::hash());
     hasher.update(content.as_slice())?;
     let len = hasher.len();
-    assert!(rt; len > 100_000);
+    assert_that(&rt, len > 100_000);
     assert_real(
         &rt,
         &[
@@ -179,7 +180,7 @@ fn a_file_is_looked_at_piece_by_piece(rt: HostRuntime) -> Result<(), Fail> {
 fn a_file_is_read_at_its_offsets(rt: HostRuntime) -> Result<(), Fail> {
     let content = own_program(&rt)?;
     let content = content.as_slice();
-    assert!(rt; content.len() > 16);
+    assert_that(&rt, content.len() > 16);
     assert_real(
         &rt,
         &[
@@ -228,7 +229,7 @@ pub fn counted(alloc: Global, count: u64) -> Result<Vec<u8>, AllocError> {
 // What is read of 1,025 bytes, of which each read gives one.
 fn assert_bytewise<'x>(rt: &'x impl Abort, content: &'x [u8]) {
     let named = [NamedFile { name: "a", content }];
-    assert!(rt; content.len() == 1_025);
+    assert_that(rt, content.len() == 1_025);
     assert_files(
         rt,
         &System::new(&named, Reads::bytewise(1)),

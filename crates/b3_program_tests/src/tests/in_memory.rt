@@ -1,5 +1,6 @@
 // The sum of one name over files in memory.
 
+use super::asserts::{assert_same, assert_that};
 use super::files::EMPTY;
 use super::steps::Asked;
 use super::steps::Step::{HashWhole, Lacks};
@@ -43,9 +44,12 @@ fn a_name_has_its_line(rt: HostRuntime) -> Result<(), Fail> {
     let mut err = MemorySink::new(alloc);
     let name = String::from_str(alloc, "abc")?;
     let answer = sum_one(&rt, alloc, &FILES, b"", name, &mut out, &mut err);
-    assert!(rt; answer.is_ok_and(|tally| tally.ok == 1 && tally.failed == 0));
+    assert_that(
+        &rt,
+        answer.is_ok_and(|tally| tally.ok == 1 && tally.failed == 0),
+    );
     let line = b"6437b3ac38465133ffb63b75273a8db548c558465d79db03fd359c6cd5bd9d85  abc\n";
-    assert_eq!(rt; out.bytes(), line.as_slice());
-    assert!(rt; err.bytes().is_empty());
+    assert_same(&rt, out.bytes(), line.as_slice());
+    assert_that(&rt, err.bytes().is_empty());
     Ok(())
 }

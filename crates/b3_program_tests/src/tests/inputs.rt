@@ -1,5 +1,6 @@
 // The input of a shelf of real files.
 
+use super::asserts::assert_same;
 use super::fakes::{Reads, SharedInput, System};
 use super::steps::Step::{Begin, LenHint, Read, ReadAt, Rest};
 use super::steps::{Step, assert_input, assert_real};
@@ -37,8 +38,8 @@ pub const SHOWN: InputPaths<'static> = InputPaths {
 // The paths by which `proc(5)` of Linux shows standard input, which is descriptor 0.
 #[test]
 fn the_input_is_looked_up_by_its_descriptor(rt: HostRuntime) {
-    assert_eq!(rt; INPUT_PATHS.file, "/proc/self/fd/0");
-    assert_eq!(rt; INPUT_PATHS.position, "/proc/self/fdinfo/0");
+    assert_same(&rt, INPUT_PATHS.file, "/proc/self/fd/0");
+    assert_same(&rt, INPUT_PATHS.position, "/proc/self/fdinfo/0");
 }
 
 // What the system shows of an input that stands at the fourth byte of a file.
@@ -63,7 +64,7 @@ fn assert_input_at_3<'x>(rt: &'x impl Abort, steps: &'x [Step<'x>], end: u64) {
     };
     let system = System::new(&INPUT_AT_3, Reads::bytewise(1));
     assert_input(rt, &system, input, SHOWN, steps);
-    assert_eq!(rt; offset.load(Ordering::SeqCst), end);
+    assert_same(rt, offset.load(Ordering::SeqCst), end);
 }
 
 // An input that is a plain file is read at offsets from its position on, and is at its end afterwards.

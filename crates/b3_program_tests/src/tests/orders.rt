@@ -4,6 +4,7 @@
 ghost use Rattle.std.specs.Prelude.{◌^◌, ◌<◌, ◌≤◌, length};
 ghost use Rattle.b3_io.specs.Operands.{operands_left};
 
+use super::asserts::{assert_same, assert_that};
 use b3_board::OpenGate;
 use b3_check::{
     CheckOptions, Form, KeyChoice, Operands, Shelf, Sink, SumOptions, Tally, run_check, run_sum,
@@ -197,7 +198,7 @@ fn check<R: Abort + Threads + Wait + Sync, S: Shelf + Send + Sync, O: Sink, E: S
     requires err { E.failures err.old < 2 ^ 63 }
 {
     let lists = strings(alloc, &LISTS)?;
-    assert!(rt; lists.len() <= LISTS.len());
+    assert_that(rt, lists.len() <= LISTS.len());
     let asked = CheckOptions {
         quiet: false,
         ignore_missing: false,
@@ -224,17 +225,17 @@ fn assert_sums<R: Abort + Threads + Wait + Sync>(
 ) -> Result<(), Fail>
     requires { length (operands_left operands) ≤ 2 ^ 30 }
 {
-    assert_eq!(rt; operands.count_hint(), counts.0.wrapping_add(counts.1));
+    assert_same(rt, operands.count_hint(), counts.0.wrapping_add(counts.1));
     let log = RefCell::new(Log::new(alloc));
     let mut out = OutputSink::new(Output::new(OUT, &log)).gathering(is_gathering);
     let mut err = OutputSink::new(Output::new(ERR, &log));
     let mut shelf = FileShelf::new(MemoryDisk::new(&FILES), MemoryFile::new(b"\0"));
     let tally = sum(rt, alloc, &mut shelf, operands, &mut out, &mut err)?;
-    assert_eq!(rt; (tally.ok, tally.failed), counts);
+    assert_same(rt, (tally.ok, tally.failed), counts);
     let mut due = Log::new(alloc);
     due.add_items(said)?;
     let seen = log.into_inner();
-    assert_eq!(rt; seen.text.as_str(), due.text.as_str());
+    assert_same(rt, seen.text.as_str(), due.text.as_str());
     Ok(())
 }
 
@@ -243,7 +244,7 @@ fn assert_sums<R: Abort + Threads + Wait + Sync>(
 fn lines_and_complaints_of_sums(rt: HostRuntime) -> Result<(), Fail> {
     let alloc = rt.alloc();
     let names = strings(alloc, &NAMES)?;
-    assert!(rt; names.len() <= NAMES.len());
+    assert_that(&rt, names.len() <= NAMES.len());
     for is_gathering in [false, true] {
         let operands = Operands::given(&names);
         assert_sums(&rt, alloc, operands, is_gathering, (5, 4), &SAID_OF_NAMES)?;
@@ -279,14 +280,14 @@ fn assert_checks<R: Abort + Threads + Wait + Sync>(
     let mut err = OutputSink::new(Output::new(ERR, &log));
     let mut shelf = FileShelf::new(MemoryDisk::new(&FILES), MemoryFile::new(b""));
     let tally = check(rt, alloc, &mut shelf, &mut out, &mut err)?;
-    assert!(rt; tally.ok == 6 && tally.lists == 1);
+    assert_that(rt, tally.ok == 6 && tally.lists == 1);
     let mut due = Log::new(alloc);
     due.add_items(&SAID_OF_LINES)?;
     due.add(ERR, "b3sum: gone: cannot read\n")?;
     due.add_items(&SAID_OF_LINES)?;
     due.add(ERR, "b3sum: WARNING: 6 computed checksums did NOT match\n")?;
     let seen = log.into_inner();
-    assert_eq!(rt; seen.text.as_str(), due.text.as_str());
+    assert_same(rt, seen.text.as_str(), due.text.as_str());
     Ok(())
 }
 

@@ -1,5 +1,6 @@
 // The sinks over writers.
 
+use super::asserts::{assert_same, assert_that};
 use b3_check::{Sink, SinkFailed};
 use b3_files::OutputSink;
 use std::io::{self, ErrorKind, Write};
@@ -48,7 +49,7 @@ fn an_interrupted_write_is_made_again(rt: HostRuntime) {
     ] {
         let mut buffer = [0; 8];
         let mut sink = OutputSink::new(Interrupted::new(buffer.as_mut_slice(), interruptions));
-        assert_eq!(rt; sink.write(b"four"), written);
+        assert_same(&rt, sink.write(b"four"), written);
     }
 }
 
@@ -56,17 +57,17 @@ fn an_interrupted_write_is_made_again(rt: HostRuntime) {
 fn a_writer_that_takes_nothing_fails(rt: HostRuntime) {
     let mut buffer = [0; 3];
     let mut sink = OutputSink::new(buffer.as_mut_slice());
-    assert_eq!(rt; sink.write(b"four"), Ok(3));
-    assert_eq!(rt; sink.write(b""), Ok(0));
-    assert_eq!(rt; sink.write(b"r"), Err(SinkFailed));
+    assert_same(&rt, sink.write(b"four"), Ok(3));
+    assert_same(&rt, sink.write(b""), Ok(0));
+    assert_same(&rt, sink.write(b"r"), Err(SinkFailed));
 }
 
 #[test]
 fn lines_may_wait_where_the_sink_gathers(rt: HostRuntime) {
     let mut buffer = [0; 3];
     let sink = OutputSink::new(buffer.as_mut_slice());
-    assert!(rt; !sink.may_wait());
+    assert_that(&rt, !sink.may_wait());
     let sink = sink.gathering(true);
-    assert!(rt; sink.may_wait());
-    assert!(rt; !sink.gathering(false).may_wait());
+    assert_that(&rt, sink.may_wait());
+    assert_that(&rt, !sink.gathering(false).may_wait());
 }

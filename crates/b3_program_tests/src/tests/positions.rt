@@ -2,6 +2,7 @@
 
 ghost use Rattle.std.specs.Prelude.{◌<◌};
 
+use super::asserts::{assert_same, assert_same_for, assert_that, assert_that_for};
 use super::files::counted;
 use b3_check::Shelf;
 use b3_files::{FileShelf, Input, MemoryDisk, MemoryFile, Stream};
@@ -135,11 +136,8 @@ fn assert_filled<S: Shelf>(
     let mut buffer = Vec::new(alloc);
     buffer.resize(len, 0xfe)?;
     let given = shelf.read_at(offset as u64, buffer.as_mut_slice());
-    assert_eq!(rt; given, Some(wanted.len()), "{len} bytes at {offset}");
-    assert!(rt;
-        buffer.as_slice().starts_with(wanted),
-        "{len} bytes at {offset}"
-    );
+    assert_same_for(rt, (len, offset), given, Some(wanted.len()));
+    assert_that_for(rt, (len, offset), buffer.as_slice().starts_with(wanted));
     Ok(())
 }
 
@@ -156,12 +154,12 @@ fn each_read_moves_the_position_by_its_length(rt: HostRuntime) -> Result<(), Fai
                 moves: &moves,
             },
         );
-        assert!(rt; shelf.begin("-").is_ok());
+        assert_that(&rt, shelf.begin("-").is_ok());
         let mut due = 0u64;
         for len in LENS {
             assert_filled(&rt, rt.alloc(), &shelf, file, offset, len)?;
             due = due.wrapping_add(len as u64);
-            assert_eq!(rt; moves.position.load(Ordering::SeqCst), due);
+            assert_same(&rt, moves.position.load(Ordering::SeqCst), due);
         }
     }
     Ok(())
@@ -182,7 +180,7 @@ fn read_failing_after<R: Abort>(
             moves: &moves,
         },
     );
-    assert!(rt; shelf.begin("-").is_ok());
+    assert_that(rt, shelf.begin("-").is_ok());
     let mut buffer = Vec::new(alloc);
     buffer.resize(200_000, 0)?;
     let given = shelf.read_at(0, buffer.as_mut_slice());
@@ -193,7 +191,7 @@ fn read_failing_after<R: Abort>(
 fn each_read_that_moves_the_position_fails(rt: HostRuntime) -> Result<(), Fail> {
     let content = counted(rt.alloc(), LEN)?;
     let (given, calls) = read_failing_after(&rt, rt.alloc(), content.as_slice(), u64::MAX)?;
-    assert!(rt; given == Some(200_000) && 1 <= calls && calls < 1_000);
+    assert_that(&rt, given == Some(200_000) && 1 <= calls && calls < 1_000);
     for before_fault in 0..calls {
         let (given, _calls) = read_failing_after(
             &rt,
@@ -201,7 +199,7 @@ fn each_read_that_moves_the_position_fails(rt: HostRuntime) -> Result<(), Fail> 
             content.as_slice(),
             before_fault,
         )?;
-        assert_eq!(rt; given, None);
+        assert_same(&rt, given, None);
     }
     Ok(())
 }
@@ -228,7 +226,7 @@ fn read_parts<R: Threads + Abort + Sync>(
         moves,
     };
     let mut shelf = FileShelf::new(MemoryDisk::new(&[]), input);
-    assert!(rt; shelf.begin("-").is_ok());
+    assert_that(rt, shelf.begin("-").is_ok());
     let mut parts = Vec::new(alloc);
     for _part in 0..PARTS {
         parts.push(vec![in alloc; 0u8; PART_LEN]?)?;
@@ -250,7 +248,7 @@ fn read_parts<R: Threads + Abort + Sync>(
         },
     );
     for (part, wanted) in parts.iter().zip(content.chunks(PART_LEN)) {
-        assert!(rt; part.as_slice() == wanted, "by {threads} threads");
+        assert_that_for(rt, threads, part.as_slice() == wanted);
     }
     Ok(())
 }
@@ -263,7 +261,7 @@ fn many_threads_move_the_position_by_all_that_they_read(rt: HostRuntime) -> Resu
         let moves = Moves::plain();
         read_parts(&rt, rt.alloc(), content.as_slice(), threads, &moves)?;
         let position = moves.position.load(Ordering::SeqCst);
-        assert_eq!(rt; position, (PARTS * PART_LEN) as u64, "by {threads} threads");
+        assert_same_for(&rt, threads, position, (PARTS * PART_LEN) as u64);
     }
     Ok(())
 }
@@ -274,15 +272,16 @@ fn no_call_waits_for_the_one_that_moves_the_position(rt: HostRuntime) -> Result<
     let content = counted(rt.alloc(), (PARTS * PART_LEN) as u64)?;
     let moves = Moves::holding();
     read_parts(&rt, rt.alloc(), content.as_slice(), 2, &moves)?;
-    assert!(rt; !moves.is_held.load(Ordering::SeqCst));
+    assert_that(&rt, !moves.is_held.load(Ordering::SeqCst));
     let position_then = moves.position_then.load(Ordering::SeqCst);
     let half = (PARTS / 2 * PART_LEN) as u64;
-    assert!(rt;
+    assert_that_for(
+        &rt,
+        position_then,
         0 < position_then && position_then < half,
-        "{position_then}"
     );
     let position = moves.position.load(Ordering::SeqCst);
-    assert_eq!(rt; position, (PARTS * PART_LEN) as u64);
+    assert_same(&rt, position, (PARTS * PART_LEN) as u64);
     Ok(())
 }
 
@@ -296,7 +295,7 @@ fn a_short_read_moves_the_position_for_itself(rt: HostRuntime) -> Result<(), Fai
         moves: &moves,
     };
     let mut shelf = FileShelf::new(MemoryDisk::new(&[]), input);
-    assert!(rt; shelf.begin("-").is_ok());
+    assert_that(&rt, shelf.begin("-").is_ok());
     let mut parts = Vec::new(rt.alloc());
     for len in [1, PART_LEN] {
         parts.push(vec![in rt.alloc(); 0u8; len]?)?;
@@ -316,8 +315,8 @@ fn a_short_read_moves_the_position_for_itself(rt: HostRuntime) -> Result<(), Fai
         },
     );
     let position_then = moves.position_then.load(Ordering::SeqCst);
-    assert_eq!(rt; position_then, PART_LEN as u64);
+    assert_same(&rt, position_then, PART_LEN as u64);
     let position = moves.position.load(Ordering::SeqCst);
-    assert_eq!(rt; position, PART_LEN as u64 + 1);
+    assert_same(&rt, position, PART_LEN as u64 + 1);
     Ok(())
 }

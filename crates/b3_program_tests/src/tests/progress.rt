@@ -1,5 +1,6 @@
 // The line of progress: what it says, when it comes, and that it goes away.
 
+use super::asserts::{assert_same, assert_that};
 use super::files::FOUR;
 use super::steps::{Asked, Step};
 use b3_check::{MemoryShelf, NoContent, Sink};
@@ -96,7 +97,7 @@ fn lines(rt: HostRuntime) -> Result<(), Fail> {
     ];
     for (counts, name, text) in rows {
         let line = progress_line(rt.alloc(), &counts, name)?;
-        assert_eq!(rt; line.as_str(), text);
+        assert_same(&rt, line.as_str(), text);
     }
     Ok(())
 }
@@ -168,15 +169,18 @@ fn a_line_comes_and_goes(rt: HostRuntime) -> Result<(), Fail> {
             Step::Read(2, Ok(b"te")),
         ],
     );
-    assert_eq!(rt; sink.write(b"said\n"), Ok(5));
-    assert_eq!(rt; sink.write(b"more\n"), Ok(5));
+    assert_same(&rt, sink.write(b"said\n"), Ok(5));
+    assert_same(&rt, sink.write(b"more\n"), Ok(5));
     shelf.assert(&rt, &[Step::Read(2, Ok(b"s"))]);
     progress.clear(&rt);
     let due = "\r2 B of ~10 B, 20%, 6 B/s, 0:01 left, 0 of 2: a\x1b[K\
                \r\x1b[Ksaid\nmore\n\
                \r5 B of ~10 B, 50%, 6 B/s, 0:00 left, 0 of 2: a\x1b[K\
                \r\x1b[K";
-    assert!(rt; written.try_borrow().is_ok_and(|seen| seen.as_str() == due));
+    assert_that(
+        &rt,
+        written.try_borrow().is_ok_and(|seen| seen.as_str() == due),
+    );
     Ok(())
 }
 
@@ -211,7 +215,10 @@ fn names_before_their_turn(rt: HostRuntime) -> Result<(), Fail> {
     );
     let due = "\r4 B of ~16 B, 25%, 13 B/s, 0:00 left, 1 of 4: a\x1b[K\
                \r14 B of 19 B, 73%, 18 B/s, 0:00 left, 2 of 4: b\x1b[K";
-    assert!(rt; written.try_borrow().is_ok_and(|seen| seen.as_str() == due));
+    assert_that(
+        &rt,
+        written.try_borrow().is_ok_and(|seen| seen.as_str() == due),
+    );
     Ok(())
 }
 

@@ -1,5 +1,6 @@
 // The real disk and the real input: each call forwards to the one file that it names.
 
+use super::asserts::{assert_same, assert_same_for, assert_that};
 use super::files::{OWN_PROGRAM, own_program};
 use b3_files::{Disk, DiskFile, FileKind, Input, InputPaths, RealDisk, RealInput, Stream};
 use std::alloc::{AllocError, Allocator};
@@ -15,14 +16,17 @@ fn a_real_file_is_read_in_order_and_at_offsets(rt: HostRuntime) -> Result<(), Fa
     let content = content.as_slice();
     let mut file = RealDisk::new(&rt).open(OWN_PROGRAM)?;
     let mut buffer = [0; 100];
-    assert_eq!(rt; file.plain_len(), Some(content.len() as u64));
-    assert_eq!(rt; file.read(&mut buffer)?, 100);
-    assert!(rt; content.starts_with(&buffer));
-    assert_eq!(rt; file.read_at(5_000, &mut buffer)?, 100);
-    assert!(rt; content.len() > 6_000 && content[5_000..].starts_with(&buffer));
-    assert_eq!(rt; file.read_at(content.len() as u64, &mut buffer)?, 0);
-    assert_eq!(rt; file.read(&mut buffer)?, 100);
-    assert!(rt; content[100..].starts_with(&buffer));
+    assert_same(&rt, file.plain_len(), Some(content.len() as u64));
+    assert_same(&rt, file.read(&mut buffer)?, 100);
+    assert_that(&rt, content.starts_with(&buffer));
+    assert_same(&rt, file.read_at(5_000, &mut buffer)?, 100);
+    assert_that(
+        &rt,
+        content.len() > 6_000 && content[5_000..].starts_with(&buffer),
+    );
+    assert_same(&rt, file.read_at(content.len() as u64, &mut buffer)?, 0);
+    assert_same(&rt, file.read(&mut buffer)?, 100);
+    assert_that(&rt, content[100..].starts_with(&buffer));
     Ok(())
 }
 
@@ -36,11 +40,17 @@ fn shown<A: Allocator>(alloc: A, folder: &str, number: u64) -> Result<String<A>,
 fn a_plain_file_alone_has_a_length(rt: HostRuntime) -> Result<(), Fail> {
     let disk = RealDisk::new(&rt);
     let len = own_program(&rt)?.len() as u64;
-    assert_eq!(rt; disk.kind(OWN_PROGRAM)?, FileKind::Plain(len));
+    assert_same(&rt, disk.kind(OWN_PROGRAM)?, FileKind::Plain(len));
     let missing = disk.kind("a file that is not there");
-    assert!(rt; missing.is_err_and(|error| error.kind() == ErrorKind::NotFound));
+    assert_that(
+        &rt,
+        missing.is_err_and(|error| error.kind() == ErrorKind::NotFound),
+    );
     let missing = disk.open("a file that is not there");
-    assert!(rt; missing.is_err_and(|error| error.kind() == ErrorKind::NotFound));
+    assert_that(
+        &rt,
+        missing.is_err_and(|error| error.kind() == ErrorKind::NotFound),
+    );
     let (reader, _writer) = pipe(&rt)?;
     let number = u64::from(reader.as_raw_fd().unsigned_abs());
     let shown_pipe = shown(rt.alloc(), "fd", number)?;
@@ -49,8 +59,8 @@ fn a_plain_file_alone_has_a_length(rt: HostRuntime) -> Result<(), Fail> {
         ("/dev/null", FileKind::Other),
         (shown_pipe.as_str(), FileKind::Other),
     ] {
-        assert_eq!(rt; disk.kind(name)?, kind, "{name}");
-        assert_eq!(rt; disk.open(name)?.plain_len(), None, "{name}");
+        assert_same_for(&rt, name, disk.kind(name)?, kind);
+        assert_same_for(&rt, name, disk.open(name)?.plain_len(), None);
     }
     Ok(())
 }
@@ -61,7 +71,7 @@ fn a_real_input_is_opened_anew_at_its_position(rt: HostRuntime) -> Result<(), Fa
     let content = own_program(&rt)?;
     let mut opened = File::open(&rt, OWN_PROGRAM)?;
     let mut buffer = [0; 1_237];
-    assert_eq!(rt; opened.read(&mut buffer)?, 1_237);
+    assert_same(&rt, opened.read(&mut buffer)?, 1_237);
     let mut is_found = false;
     for number in 3..64 {
         let file = shown(rt.alloc(), "fd", number)?;
@@ -72,14 +82,14 @@ fn a_real_input_is_opened_anew_at_its_position(rt: HostRuntime) -> Result<(), Fa
         };
         let input = RealInput::new(&rt, b"".as_slice(), paths);
         if let Some((mut file, 1_237)) = input.reopen() {
-            assert!(rt; !is_found);
+            assert_that(&rt, !is_found);
             is_found = true;
-            assert_eq!(rt; file.plain_len(), Some(content.len() as u64));
-            assert_eq!(rt; file.read(&mut buffer)?, 1_237);
-            assert!(rt; content.as_slice().starts_with(&buffer));
+            assert_same(&rt, file.plain_len(), Some(content.len() as u64));
+            assert_same(&rt, file.read(&mut buffer)?, 1_237);
+            assert_that(&rt, content.as_slice().starts_with(&buffer));
         }
     }
-    assert!(rt; is_found);
+    assert_that(&rt, is_found);
     Ok(())
 }
 
@@ -89,9 +99,10 @@ fn a_device_is_no_file_to_open_anew(rt: HostRuntime) {
         file: "/dev/null",
         position: "/proc/self/fdinfo/0",
     };
-    assert!(rt;
+    assert_that(
+        &rt,
         RealInput::new(&rt, b"".as_slice(), paths)
             .reopen()
-            .is_none()
+            .is_none(),
     );
 }

@@ -2,6 +2,7 @@
 
 ghost use Rattle.std.specs.Prelude.{◌≡◌, ◌≤◌};
 
+use super::asserts::{assert_same, assert_same_for, assert_that, assert_that_for};
 use super::fakes::{FakeFiles, SharedInput, System};
 use b3_check::{CannotRead, NoContent, Shelf};
 use b3_core::Mode;
@@ -54,12 +55,12 @@ fn assert_read_at<S: Shelf>(rt: &impl Abort, shelf: &S, offset: u64, answer: Opt
     let mut buffer = [0; 1_000];
     let given = shelf.read_at(offset, &mut buffer);
     let Some(rest) = answer else {
-        assert_eq!(rt; given, None, "at {offset}");
+        assert_same_for(rt, offset, given, None);
         return;
     };
     let wanted = &rest[..rest.len().min(1_000)];
-    assert_eq!(rt; given, Some(wanted.len()), "at {offset}");
-    assert!(rt; buffer.starts_with(wanted), "at {offset}");
+    assert_same_for(rt, offset, given, Some(wanted.len()));
+    assert_that_for(rt, offset, buffer.starts_with(wanted));
 }
 
 fn assert_rest_at<S: Shelf>(rt: &impl Abort, shelf: &S, rest: &[u8], offset: usize) {
@@ -69,7 +70,7 @@ fn assert_rest_at<S: Shelf>(rt: &impl Abort, shelf: &S, rest: &[u8], offset: usi
 
 // The same at many offsets, also around the end.
 fn assert_rest<S: Shelf>(rt: &impl Abort, shelf: &S, rest: &[u8]) {
-    assert_eq!(rt; shelf.len_hint(), rest.len() as u64);
+    assert_same(rt, shelf.len_hint(), rest.len() as u64);
     for k in 0..500usize {
         assert_rest_at(rt, shelf, rest, k);
         assert_rest_at(rt, shelf, rest, (rest.len() / 500).saturating_mul(k));
@@ -95,22 +96,22 @@ impl<S: Shelf> Asked<S> {
     }
 
     fn begin(&mut self, rt: &impl Abort, name: &str, answer: Result<(), NoContent>) {
-        assert!(rt; self.calls < 1_000);
+        assert_that(rt, self.calls < 1_000);
         self.calls += 1;
-        assert_eq!(rt; self.shelf.begin(name), answer, "{name}");
+        assert_same_for(rt, name, self.shelf.begin(name), answer);
     }
 
     fn read(&mut self, rt: &impl Abort, most: usize, answer: Result<&[u8], CannotRead>) {
         let mut buffer = [0; 8];
-        assert!(rt; 1 <= most && most <= 8 && self.calls < 1_000);
+        assert_that(rt, 1 <= most && most <= 8 && self.calls < 1_000);
         self.calls += 1;
         let given = self.shelf.read(&mut buffer[..most]);
         let Ok(bytes) = answer else {
-            assert!(rt; given.is_err());
+            assert_that(rt, given.is_err());
             return;
         };
-        assert_eq!(rt; given, Ok(bytes.len()));
-        assert!(rt; buffer.starts_with(bytes));
+        assert_same(rt, given, Ok(bytes.len()));
+        assert_that(rt, buffer.starts_with(bytes));
     }
 
     /// Makes these calls.
@@ -122,12 +123,12 @@ impl<S: Shelf> Asked<S> {
                 Step::Read(most, answer) => self.read(rt, most, answer),
                 Step::ReadAt(offset, answer) => assert_read_at(rt, &self.shelf, offset, answer),
                 Step::Rest(rest) => assert_rest(rt, &self.shelf, rest),
-                Step::LenHint(len) => assert_eq!(rt; self.shelf.len_hint(), len),
+                Step::LenHint(len) => assert_same(rt, self.shelf.len_hint(), len),
                 Step::HashWhole(name, max_len, digest) => {
                     let given = digest_of_whole(&self.shelf, name, max_len);
-                    assert_eq!(rt; given, digest.copied(), "{name}");
+                    assert_same_for(rt, name, given, digest.copied());
                 }
-                Step::Lacks(name, why) => assert_eq!(rt; self.shelf.lacks(name), why, "{name}"),
+                Step::Lacks(name, why) => assert_same_for(rt, name, self.shelf.lacks(name), why),
             }
         }
     }

@@ -2,6 +2,7 @@
 
 ghost use Rattle.std.specs.Prelude.{◌≡◌, ◌^◌, ◌<◌};
 
+use super::asserts::{assert_same, assert_that};
 use b3_check::{Shelf, Sink, write_all};
 use b3_files::{FileShelf, MemoryDisk, MemoryFile, NamedFile, OutputSink};
 use b3_program::{ClearingSink, CountingShelf, Progress};
@@ -124,27 +125,28 @@ fn a_line_comes_between_those_of_an_output(rt: HostRuntime) {
     progress.show_if(true);
     let files = FileShelf::new(MemoryDisk::new(&FILES), MemoryFile::new(b""));
     let mut shelf = CountingShelf::new(alloc, files, &progress);
-    assert_eq!(rt; shelf.begin("a"), Ok(()));
+    assert_same(&rt, shelf.begin("a"), Ok(()));
     let output = OutputSink::new(Slow {
         record: &written,
         shelf: &shelf,
     });
     let mut sink = ClearingSink::new(&rt, output, true, &progress);
     count_byte(&shelf);
-    assert_eq!(rt; sink.write(b"line\n"), Ok(3));
+    assert_same(&rt, sink.write(b"line\n"), Ok(3));
     // Half of a line stands there.
     count_byte(&shelf);
-    assert_eq!(rt; sink.write(b"e\n"), Ok(2));
+    assert_same(&rt, sink.write(b"e\n"), Ok(2));
     count_byte(&shelf);
     count_byte(&shelf);
-    assert_eq!(rt; sink.write(b"b\n"), Ok(2));
+    assert_same(&rt, sink.write(b"b\n"), Ok(2));
     count_byte(&shelf);
     progress.clear(&rt);
     progress.clear(&rt);
-    assert!(rt;
+    assert_that(
+        &rt,
         written
             .try_lock()
-            .is_some_and(|text| text.as_str() == "<>line\n<<>b\n<>")
+            .is_some_and(|text| text.as_str() == "<>line\n<<>b\n<>"),
     );
 }
 
@@ -191,11 +193,11 @@ fn assert_whole(rt: &impl Abort, written: &Mutex<String>) {
         return;
     };
     let text = written.as_str();
-    assert_eq!(rt; text.lines().count(), LINES);
+    assert_same(rt, text.lines().count(), LINES);
     for seen in text.lines() {
         let (shown, line) = seen.split_once(ERASED).unwrap_or(("", seen));
-        assert_eq!(rt; line, LINE);
-        assert!(rt; shown.chars().all(|character| character == SHOWN));
+        assert_same(rt, line, LINE);
+        assert_that(rt, shown.chars().all(|character| character == SHOWN));
     }
 }
 
@@ -208,7 +210,7 @@ fn a_thread_counts_while_an_output_writes(rt: HostRuntime) {
     progress.show_if(true);
     let files = FileShelf::new(MemoryDisk::new(&FILES), MemoryFile::new(b""));
     let mut shelf = CountingShelf::new(alloc, files, &progress);
-    assert_eq!(rt; shelf.begin("a"), Ok(()));
+    assert_same(&rt, shelf.begin("a"), Ok(()));
     let sink = OutputSink::new(Slow {
         record: &written,
         shelf: &shelf,

@@ -1,5 +1,6 @@
 // A shelf of real files whose reads fail, give little, or are interrupted several times in a row.
 
+use super::asserts::{assert_same, assert_that};
 use super::fakes::{BUSY, FIFO, Reads, SharedInput, System};
 use super::files::{DIGEST, EMPTY, FOUR, counted};
 use super::inputs::{INPUT_AT_3, NOT_SHOWN, SHOWN};
@@ -204,7 +205,7 @@ fn assert_interrupted<'x>(
     is_given: bool,
 ) {
     let named = [NamedFile { name: "a", content }];
-    assert!(rt; content.len() == 1_025);
+    assert_that(rt, content.len() == 1_025);
     let rest = if is_given {
         Some(&content[1_000..])
     } else {
@@ -245,7 +246,7 @@ fn a_file_is_closed_before_the_next_is_opened(rt: HostRuntime) {
         Begin("b", Ok(())),
     ];
     assert_files(&rt, &system, &steps);
-    assert_eq!(rt; system.overlapping(), 0);
+    assert_same(&rt, system.overlapping(), 0);
 }
 
 #[test]
@@ -289,7 +290,7 @@ fn an_empty_file_is_hashed_beside_others(rt: HostRuntime) {
     for (reads, digest, calls) in rows {
         let system = System::new(&FILES, reads);
         assert_files(&rt, &system, &[HashWhole("empty", 0, digest)]);
-        assert_eq!(rt; system.reads.calls(), calls);
+        assert_same(&rt, system.reads.calls(), calls);
     }
 }
 
@@ -300,7 +301,7 @@ fn a_file_that_tells_another_length_is_hashed_whole(rt: HostRuntime) {
     for (told, calls) in [(0, 2), (3, 2), (4, 1), (5, 2), (1 << 20, 2)] {
         let system = System::telling(&FILES, told);
         assert_files(&rt, &system, &[HashWhole("a", u64::MAX, Some(FOUR))]);
-        assert_eq!(rt; system.reads.calls(), calls);
+        assert_same(&rt, system.reads.calls(), calls);
     }
 }
 
@@ -310,5 +311,5 @@ fn a_file_that_tells_another_length_is_hashed_whole(rt: HostRuntime) {
 fn a_file_that_was_replaced_is_not_hashed(rt: HostRuntime) {
     let system = System::replaced(&FILES);
     assert_files(&rt, &system, &[HashWhole("a", 8, None)]);
-    assert_eq!(rt; system.reads.calls(), 0);
+    assert_same(&rt, system.reads.calls(), 0);
 }

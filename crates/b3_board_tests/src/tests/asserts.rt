@@ -1,0 +1,35 @@
+// The assertions of the tests, each proved once: a macro's code is proved anew at each place.
+
+ghost use Rattle.std.specs.Prelude.{◌≡◌, true};
+
+use std::fmt::Debug;
+use std::process::Abort;
+
+/// Ends the process, unless the two are equal.
+pub fn assert_same<T: PartialEq + Debug + Drop>(rt: &impl Abort, found: T, wanted: T) {
+    assert_eq!(rt; found, wanted);
+}
+
+/// Ends the process, unless the two are equal: for one of several cases, which a failure names.
+pub fn assert_same_for<C: Debug + Drop, T: PartialEq + Debug + Drop>(
+    rt: &impl Abort,
+    case: C,
+    found: T,
+    wanted: T,
+) {
+    assert_eq!(rt; found, wanted, "{case:?}");
+}
+
+/// Ends the process, unless this holds.
+pub fn assert_that(rt: &impl Abort, holds: bool)
+    ensures { holds ≡ true }
+{
+    assert!(rt; holds);
+}
+
+/// Ends the process, unless this holds: for one of several cases, which a failure names.
+pub fn assert_that_for<C: Debug + Drop>(rt: &impl Abort, case: C, holds: bool)
+    ensures { holds ≡ true }
+{
+    assert!(rt; holds, "{case:?}");
+}
