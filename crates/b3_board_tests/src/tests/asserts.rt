@@ -6,7 +6,9 @@ use std::fmt::Debug;
 use std::process::Abort;
 
 /// Ends the process, unless the two are equal.
-pub fn assert_same<T: PartialEq + Debug + Drop>(rt: &impl Abort, found: T, wanted: T) {
+pub fn assert_same<T: PartialEq + Debug + Drop>(rt: &impl Abort, found: T, wanted: T)
+    ensures { T.eq found wanted ≡ true }
+{
     assert_eq!(rt; found, wanted);
 }
 
@@ -16,7 +18,9 @@ pub fn assert_same_for<C: Debug + Drop, T: PartialEq + Debug + Drop>(
     case: C,
     found: T,
     wanted: T,
-) {
+)
+    ensures { T.eq found wanted ≡ true }
+{
     assert_eq!(rt; found, wanted, "{case:?}");
 }
 
