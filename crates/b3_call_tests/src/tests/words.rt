@@ -1,6 +1,7 @@
 // What `clap` reads of words, and that settling them takes no memory.
 
 use super::asserts::{assert_same, assert_that, assert_that_for};
+use super::calls::arguments;
 use b3_call::read_words;
 use b3_check::{MAX_OUTPUT_LEN, MAX_WORKERS};
 use b3_program::{Job, Stop, Task, Usage, Words, settle};
@@ -8,14 +9,7 @@ use std::alloc::{AllocError, Global};
 use std::process::Abort;
 
 fn read(alloc: Global, words: &[&str]) -> Result<Words, Stop> {
-    let mut all = Vec::new(alloc);
-    all.push(String::from_str(alloc, "b3sum")?)
-        .map_err(AllocError::from)?;
-    for word in words {
-        all.push(String::from_str(alloc, word)?)
-            .map_err(AllocError::from)?;
-    }
-    read_words(alloc, all.as_slice())
+    read_words(alloc, arguments(alloc, words)?.as_slice())
 }
 
 // The words are not taken, and the text says why.

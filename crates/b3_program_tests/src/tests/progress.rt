@@ -1,13 +1,17 @@
 // The line of progress: what it says, when it comes, and that it goes away.
 
-use super::asserts::{assert_same, assert_that};
+ghost use Rattle.std.specs.Prelude.{◌≡◌};
+
+use super::asserts::assert_same;
 use super::files::FOUR;
 use super::steps::{Asked, Step};
-use b3_check::{MemoryShelf, NoContent, Sink};
+use b3_check::{MemoryShelf, NoContent, Shelf, Sink};
 use b3_files::{FileShelf, MemoryDisk, MemoryFile, NamedFile, OutputSink};
 use b3_program::{ClearingSink, CountingShelf, Counts, Progress, progress_line};
+use std::alloc::Global;
 use std::cell::{Cell, RefCell};
 use std::io::{self, ErrorKind, Write};
+use std::process::Abort;
 use std::rt::Clock;
 use std::test::Fail;
 use std::time::Duration;
@@ -141,6 +145,28 @@ impl Write for Screen<'_> {
     }
 }
 
+// Just this was written.
+fn assert_written(rt: &impl Abort, written: &RefCell<String>, due: &str) {
+    let Ok(seen) = written.try_borrow() else {
+        assert!(rt; false, "it is still written");
+        return;
+    };
+    assert_same(rt, seen.as_str(), due);
+}
+
+// Makes these calls of a shelf that counts what this one gives.
+fn assert_counted<S: Shelf + Drop, C: Clock, W: Write>(
+    rt: &impl Abort,
+    alloc: Global,
+    files: S,
+    progress: &Progress<C, W>,
+    steps: &[Step<'_>],
+)
+    requires { S.failures files ≡ 0 }
+{
+    Asked::new(CountingShelf::new(alloc, files, progress)).assert(rt, steps);
+}
+
 // One line in a fifth of a second, which goes away before anything else is written.
 #[test]
 fn a_line_comes_and_goes(rt: HostRuntime) -> Result<(), Fail> {
@@ -177,10 +203,7 @@ fn a_line_comes_and_goes(rt: HostRuntime) -> Result<(), Fail> {
                \r\x1b[Ksaid\nmore\n\
                \r5 B of ~10 B, 50%, 6 B/s, 0:00 left, 0 of 2: a\x1b[K\
                \r\x1b[K";
-    assert_that(
-        &rt,
-        written.try_borrow().is_ok_and(|seen| seen.as_str() == due),
-    );
+    assert_written(&rt, &written, due);
     Ok(())
 }
 
@@ -197,28 +220,23 @@ fn names_before_their_turn(rt: HostRuntime) -> Result<(), Fail> {
     let progress = Progress::new(alloc, clock, screen, true);
     progress.show_if(true);
     let files = FileShelf::new(MemoryDisk::new(&FILES), MemoryFile::new(b""));
-    Asked::new(CountingShelf::new(alloc, files, &progress)).assert(
-        &rt,
-        &[
-            Step::Expect(4),
-            Step::HashWhole("a", 10, Some(FOUR)),
-            Step::HashWhole("missing", 10, None),
-            Step::Lacks("missing", Some(NoContent::Missing)),
-            Step::HashWhole("b", 10, None),
-            Step::Lacks("b", None),
-            Step::HashWhole("c", 2, None),
-            Step::Lacks("c", None),
-            Step::Begin("b", Ok(())),
-            Step::ReadAt(6, Some(b" bytes")),
-            Step::ReadAt(8, Some(b"ytes")),
-        ],
-    );
+    let steps = [
+        Step::Expect(4),
+        Step::HashWhole("a", 10, Some(FOUR)),
+        Step::HashWhole("missing", 10, None),
+        Step::Lacks("missing", Some(NoContent::Missing)),
+        Step::HashWhole("b", 10, None),
+        Step::Lacks("b", None),
+        Step::HashWhole("c", 2, None),
+        Step::Lacks("c", None),
+        Step::Begin("b", Ok(())),
+        Step::ReadAt(6, Some(b" bytes")),
+        Step::ReadAt(8, Some(b"ytes")),
+    ];
+    assert_counted(&rt, alloc, files, &progress, &steps);
     let due = "\r4 B of ~16 B, 25%, 13 B/s, 0:00 left, 1 of 4: a\x1b[K\
                \r14 B of 19 B, 73%, 18 B/s, 0:00 left, 2 of 4: b\x1b[K";
-    assert_that(
-        &rt,
-        written.try_borrow().is_ok_and(|seen| seen.as_str() == due),
-    );
+    assert_written(&rt, &written, due);
     Ok(())
 }
 

@@ -144,10 +144,32 @@ fn assert_shelf<D: Disk + Drop, I: Input + Drop>(
     Asked::new(FileShelf::new(disk, input)).assert(rt, steps);
 }
 
+// The same, over the files of a file system beside an input that can be opened anew.
+fn assert_beside_input<F: Files>(
+    rt: &impl Abort,
+    files: &F,
+    input: SharedInput<'_>,
+    paths: InputPaths<'_>,
+    steps: &[Step<'_>],
+)
+where
+    F::File: FileExt,
+{
+    let input = RealInput::new(files, input, paths);
+    assert_shelf(rt, RealDisk::new(files), input, steps);
+}
+
+// The same, beside an input of these bytes.
+fn assert_beside_bytes<F: Files>(rt: &impl Abort, files: &F, input: &[u8], steps: &[Step<'_>])
+where
+    F::File: FileExt,
+{
+    assert_shelf(rt, RealDisk::new(files), MemoryFile::new(input), steps);
+}
+
 /// Makes these calls of a shelf of such files.
 pub fn assert_files<'x>(rt: &'x impl Abort, system: &'x System<'x>, steps: &[Step<'_>]) {
-    let files = FakeFiles::new(rt, system);
-    assert_shelf(rt, RealDisk::new(&files), MemoryFile::new(b""), steps);
+    assert_beside_bytes(rt, &FakeFiles::new(rt, system), b"", steps);
 }
 
 /// Makes these calls of a shelf of such files beside an input.
@@ -158,9 +180,7 @@ pub fn assert_input<'x>(
     paths: InputPaths<'x>,
     steps: &[Step<'_>],
 ) {
-    let files = FakeFiles::new(rt, system);
-    let input = RealInput::new(&files, input, paths);
-    assert_shelf(rt, RealDisk::new(&files), input, steps);
+    assert_beside_input(rt, &FakeFiles::new(rt, system), input, paths, steps);
 }
 
 /// Makes these calls of a shelf of real files, beside an input of four bytes.
@@ -168,5 +188,5 @@ pub fn assert_real<R: Abort + Files>(rt: &R, steps: &[Step<'_>])
 where
     R::File: FileExt,
 {
-    assert_shelf(rt, RealDisk::new(rt), MemoryFile::new(b"four"), steps);
+    assert_beside_bytes(rt, rt, b"four", steps);
 }

@@ -9,8 +9,8 @@ use b3_program::{ClearingSink, CountingShelf, Progress};
 use std::io::{self, ErrorKind, Write};
 use std::process::Abort;
 use std::rt::Clock;
-use std::sync::Mutex;
 use std::sync::atomic::{AtomicBool, AtomicU64, Ordering};
+use std::sync::{Mutex, Wait};
 use std::thread::{self, Threads};
 use std::time::Duration;
 
@@ -116,6 +116,41 @@ impl<K: Sink> Whole<K> {
     }
 }
 
+// Two lines, the first by two calls, and bytes that are counted before, between and after them.
+fn write_two_lines<S: Shelf, K: Sink>(rt: &impl Abort, shelf: &S, sink: &mut K)
+    requires { K.failures sink.old < 2 ^ 63 }
+{
+    count_byte(shelf);
+    assert_same(rt, sink.write(b"line\n"), Ok(3));
+    // Half of a line stands there.
+    count_byte(shelf);
+    assert_same(rt, sink.write(b"e\n"), Ok(2));
+    count_byte(shelf);
+    count_byte(shelf);
+    assert_same(rt, sink.write(b"b\n"), Ok(2));
+    count_byte(shelf);
+}
+
+// The same, where the output stands on the terminal of the line of progress.
+fn write_on_terminal<R: Abort + Wait, S: Shelf, C: Clock, W: Write>(
+    rt: &R,
+    record: &Mutex<String>,
+    shelf: &S,
+    progress: &Progress<C, W>,
+) {
+    let output = OutputSink::new(Slow { record, shelf });
+    let mut sink = ClearingSink::new(rt, output, true, progress);
+    write_two_lines(rt, shelf, &mut sink);
+}
+
+fn assert_record(rt: &impl Abort, record: &Mutex<String>, wanted: &str) {
+    let Some(text) = record.try_lock() else {
+        assert!(rt; false, "it is still written");
+        return;
+    };
+    assert_same(rt, text.as_str(), wanted);
+}
+
 #[test]
 fn a_line_comes_between_those_of_an_output(rt: HostRuntime) {
     let alloc = rt.alloc();
@@ -126,28 +161,10 @@ fn a_line_comes_between_those_of_an_output(rt: HostRuntime) {
     let files = FileShelf::new(MemoryDisk::new(&FILES), MemoryFile::new(b""));
     let mut shelf = CountingShelf::new(alloc, files, &progress);
     assert_same(&rt, shelf.begin("a"), Ok(()));
-    let output = OutputSink::new(Slow {
-        record: &written,
-        shelf: &shelf,
-    });
-    let mut sink = ClearingSink::new(&rt, output, true, &progress);
-    count_byte(&shelf);
-    assert_same(&rt, sink.write(b"line\n"), Ok(3));
-    // Half of a line stands there.
-    count_byte(&shelf);
-    assert_same(&rt, sink.write(b"e\n"), Ok(2));
-    count_byte(&shelf);
-    count_byte(&shelf);
-    assert_same(&rt, sink.write(b"b\n"), Ok(2));
-    count_byte(&shelf);
+    write_on_terminal(&rt, &written, &shelf, &progress);
     progress.clear(&rt);
     progress.clear(&rt);
-    assert_that(
-        &rt,
-        written
-            .try_lock()
-            .is_some_and(|text| text.as_str() == "<>line\n<<>b\n<>"),
-    );
+    assert_record(&rt, &written, "<>line\n<<>b\n<>");
 }
 
 // How many lines are written.
@@ -201,6 +218,21 @@ fn assert_whole(rt: &impl Abort, written: &Mutex<String>) {
     }
 }
 
+// Lines on the terminal of the line of progress, while another thread counts, and one after it.
+fn write_lines_on_terminal<R: Threads + Wait + Abort + Sync, S: Shelf + Sync, C: Clock, W: Write>(
+    rt: &R,
+    record: &Mutex<String>,
+    shelf: &S,
+    progress: &Progress<C, W>,
+) {
+    let sink = OutputSink::new(Slow { record, shelf });
+    let mut output = Whole {
+        sink: ClearingSink::new(rt, sink, true, progress),
+    };
+    write_beside(rt, shelf, &mut output);
+    output.write(rt, "line\n");
+}
+
 #[test]
 fn a_thread_counts_while_an_output_writes(rt: HostRuntime) {
     let alloc = rt.alloc();
@@ -211,14 +243,6 @@ fn a_thread_counts_while_an_output_writes(rt: HostRuntime) {
     let files = FileShelf::new(MemoryDisk::new(&FILES), MemoryFile::new(b""));
     let mut shelf = CountingShelf::new(alloc, files, &progress);
     assert_same(&rt, shelf.begin("a"), Ok(()));
-    let sink = OutputSink::new(Slow {
-        record: &written,
-        shelf: &shelf,
-    });
-    let mut output = Whole {
-        sink: ClearingSink::new(&rt, sink, true, &progress),
-    };
-    write_beside(&rt, &shelf, &mut output);
-    output.write(&rt, "line\n");
+    write_lines_on_terminal(&rt, &written, &shelf, &progress);
     assert_whole(&rt, &written);
 }
