@@ -36,7 +36,7 @@ ZSH = $(SHARE)/zsh/site-functions
 INSTALL = install
 
 # The version is written down where the program prints it.
-VERSION := $(shell sed -n 's/.*\.version("\(.*\)").*/\1/p' crates/b3_call/src/command.rt)
+VERSION := $(shell sed -n 's/.*\.version("\(.*\)").*/\1/p' crates/b3_arguments/src/command.rt)
 
 # The level of x86-64 to build for: the program may use its instructions and those of all levels below.
 has = $(shell grep -m 1 -o -w $(1) /proc/cpuinfo 2>/dev/null)

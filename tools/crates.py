@@ -5,11 +5,15 @@ from pathlib import Path
 ROOT = Path(__file__).resolve().parent.parent
 
 
+def crate_lines():
+    """The lines of crates.txt that list the crates of the repository, by their names."""
+    lines = (ROOT / "crates.txt").read_text().splitlines()
+    return {line.partition(":")[0].split()[0]: line for line in lines if line[:1] not in ("", "#")}
+
+
 def crates_below():
     """The crates of the repository that a crate depends on, with itself, by its name."""
-    lines = (ROOT / "crates.txt").read_text().splitlines()
-    rows = [line.partition(":") for line in lines if line[:1] not in ("", "#")]
-    direct = {left.split()[0]: right.split() for left, _, right in rows}
+    direct = {name: line.partition(":")[2].split() for name, line in crate_lines().items()}
 
     def below(name):
         return {name}.union(*(below(other) for other in direct[name] if other in direct))

@@ -37,8 +37,8 @@ def run(*words, cwd=ROOT, **more):
 
 def program_version():
     """The version that the program prints."""
-    found = re.search(r'\.version\("([^"]+)"\)', (ROOT / "crates/b3_call/src/command.rt").read_text())
-    return found[1] if found else stop("crates/b3_call/src/command.rt has no version")
+    found = re.search(r'\.version\("([^"]+)"\)', (ROOT / "crates/b3_arguments/src/command.rt").read_text())
+    return found[1] if found else stop("crates/b3_arguments/src/command.rt has no version")
 
 
 def sha256(path):

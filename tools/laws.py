@@ -6,12 +6,12 @@ from dataclasses import dataclass
 TO_CALL = (("b3sum/src/main.rt", "main"), ("b3_call/src/call.rt", "call_with"))
 TO_SHELF = (*TO_CALL, ("b3_files/src/files.rt", "FileShelf::new"))
 TO_OUTPUT = (*TO_CALL, ("b3_files/src/outputs.rt", "OutputSink::new"))
-TO_TASK = (*TO_CALL, ("b3_call/src/call.rt", "run_call"), ("b3_program/src/run.rt", "run_words"),
-           ("b3_program/src/run.rt", "run_task"))
-TO_RUN = (*TO_TASK, ("b3_program/src/run.rt", "run_over_files"), ("b3_program/src/jobs.rt", "run_job"),
-          ("b3_program/src/jobs.rt", "run_engine"))
-TO_GIVEN = (*TO_TASK, ("b3_program/src/run.rt", "run_over_files"), ("b3_io/src/operands.rt", "Operands::given"))
-TO_LIST = (*TO_TASK, ("b3_program/src/lists.rt", "run_in_list"), ("b3_program/src/lists.rt", "run_over"),
+TO_TASK = (*TO_CALL, ("b3_call/src/call.rt", "run_call"), ("b3_call/src/run.rt", "run_words"),
+           ("b3_call/src/run.rt", "run_task"))
+TO_RUN = (*TO_TASK, ("b3_call/src/run.rt", "run_over_files"), ("b3_call/src/jobs.rt", "run_job"),
+          ("b3_call/src/jobs.rt", "run_engine"))
+TO_GIVEN = (*TO_TASK, ("b3_call/src/run.rt", "run_over_files"), ("b3_io/src/operands.rt", "Operands::given"))
+TO_LIST = (*TO_TASK, ("b3_call/src/lists.rt", "run_in_list"), ("b3_call/src/lists.rt", "run_over"),
            ("b3_io/src/operands.rt", "Operands::in_list"))
 TO_SUM = (*TO_RUN, ("b3_check/src/sum.rt", "run_sum"))
 TO_CHECK = (*TO_RUN, ("b3_check/src/check.rt", "run_check"))

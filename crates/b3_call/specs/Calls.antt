@@ -4,12 +4,12 @@ use Rattle.std.specs.declared.io.Error.{Error}
 use Rattle.clap.specs.Walk.{Text}
 use Rattle.b3_io.specs.Contents.{Contents}
 use Rattle.b3_io.specs.Runs.{IoState}
-use Rattle.b3_program.specs.Programs.{Ends}
 use Rattle.b3_program.specs.Stops.{EndsBy, IsStopForInput}
 use Rattle.b3_program.specs.declared.stop.Stop.{Stop}
 use Rattle.b3_program.specs.declared.words.Words.{Words}
-use Rattle.b3_call.specs.Readings.{AreFrom}
-use Rattle.b3_call.specs.Refusals.{IsStopOver}
+use Rattle.b3_arguments.specs.Readings.{AreFrom}
+use Rattle.b3_arguments.specs.Refusals.{IsStopOver}
+use Rattle.b3_call.specs.Programs.{Ends}
 
 -- what the call was given: the texts of its arguments, or why there are none
 abbrev pub texts_in : {Y Z : Type 0} → Result (Vec (String Y) Z) Error → Result (List Text) Error

@@ -1,4 +1,2 @@
-pub mod Options
-pub mod Readings
-pub mod Refusals
+pub mod Programs
 pub mod Calls

@@ -5,11 +5,12 @@ ghost use Rattle.b3_io.specs.Runs.{io_state};
 ghost use Rattle.b3_files.specs.Files.{contents_with, rest_of, told_if};
 ghost use Rattle.b3_call.specs.Calls.{AreWordsOf, CallsWith, EndsCall, IsStopOf, texts_in};
 
-use crate::words::read_words;
+use crate::run::run_words;
+use b3_arguments::read_words;
 use b3_board::Gate;
 use b3_check::{Shelf, Sink};
 use b3_files::{Disk, FileShelf, Input, OutputSink};
-use b3_program::{ClearingSink, CountingShelf, Progress, Stop, Words, run_words};
+use b3_program::{ClearingSink, CountingShelf, Progress, Stop, Words};
 use std::alloc::Global;
 use std::io::{self, IsTerminal, Write};
 use std::rt::{Clock, Stderr, Stdout};

@@ -1,12 +1,10 @@
-//! A call of the program, from its arguments to its status: `clap` reads the words, and `b3_program` does what they ask
-//! for.
+//! A call of the program, from its arguments to its status: what its words ask for is done over a shelf and two outputs.
 #![tactic(auto)]
 
 mod call;
-mod command;
-mod environment;
-mod words;
+mod jobs;
+mod lists;
+mod run;
 
 pub use call::{Called, StandardError, StandardOutput, call_with, run_call};
-pub use environment::arguments;
-pub use words::read_words;
+pub use run::run_words;

@@ -3,5 +3,4 @@ pub mod Tasks
 pub mod Said
 pub mod Stops
 pub mod Lists
-pub mod Programs
 pub mod Columns

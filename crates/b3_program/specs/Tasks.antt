@@ -6,7 +6,9 @@ use Rattle.b3_io.specs.declared.options.Form.{Form}
 use Rattle.b3_io.specs.declared.options.Form.TheVariants.{Named, Bare, Raw, Tagged}
 use Rattle.b3_io.specs.declared.options.KeyChoice.{KeyChoice}
 use Rattle.b3_io.specs.declared.options.KeyChoice.TheVariants.{Plain, Keyed, Derive}
+use Rattle.b3_io.specs.declared.options.Limits.{Limits}
 use Rattle.b3_io.specs.declared.options.SumOptions.{SumOptions}
+use Rattle.b3_io.specs.Options.{check_limits, limits_of}
 use Rattle.b3_program.specs.declared.task.Job.{Job}
 use Rattle.b3_program.specs.declared.task.Job.TheVariants.{Sum, Check}
 use Rattle.b3_program.specs.declared.task.Names.{Names}
@@ -63,3 +65,8 @@ names_for words = option_map_or InList words.files0_from (Files words.files)
 -- the task of words that are not refused
 abbrev pub task_for : Words → Task
 task_for words = record { job = job_for words; names = names_for words }
+
+-- how much of a file a job reads
+abbrev pub limits_for : Job → Limits
+limits_for (Sum options) = limits_of options
+limits_for (Check options) = check_limits options

@@ -3,7 +3,7 @@
 ghost use Rattle.std.specs.Prelude.{◌≡◌};
 
 use crate::progress::{Progress, Terminal};
-use b3_check::{Sink, SinkFailed};
+use b3_io::{Sink, SinkFailed};
 use std::io::Write;
 use std::rt::Clock;
 use std::sync::{MutexGuard, Wait};

@@ -10,7 +10,7 @@ ghost use Rattle.b3_program.specs.Usages.{usage_text};
 
 use crate::stop::{FAILURE, USAGE};
 use crate::usage::Usage;
-use b3_check::{RunFault, Sink, SinkFailed, write_all};
+use b3_io::{RunFault, Sink, SinkFailed, write_all};
 
 /// Says a text, and answers whether the sink took all of it.
 pub fn say<K: Sink>(sink: &mut K, text: &str) -> bool

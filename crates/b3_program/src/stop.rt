@@ -1,7 +1,7 @@
 ghost use Rattle.std.specs.Prelude.{◌≡◌, ◌+◌, ◌-◌, ◌^◌, ◌<◌};
 
 use crate::say::{say, say_line};
-use b3_check::{RunFault, Sink, prefixed};
+use b3_io::{RunFault, Sink, prefixed};
 use std::alloc::AllocError;
 use std::io;
 

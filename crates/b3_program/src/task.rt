@@ -1,14 +1,15 @@
 ghost use Rattle.std.specs.Prelude.{◌≡◌, None, Some, IfErr, IfOk};
 ghost use Rattle.std.specs.List.{list_any};
 ghost use Rattle.std.specs.Option.{option_map, option_map_or};
-ghost use Rattle.b3_program.specs.Tasks.{check_options, form_of, key_of, names_for, sum_options, task_for, workers_of};
+ghost use Rattle.b3_program.specs.Tasks.{check_options, form_of, key_of, limits_for, names_for, sum_options, task_for, workers_of};
 ghost use Rattle.b3_program.specs.declared.task.Job.TheVariants.{Sum, Check};
 ghost use Rattle.b3_program.specs.declared.task.Names.TheVariants.{Files, InList};
 ghost use Rattle.b3_program.specs.Usages.{excluded_by_check, excluded_by_tag, first_given, is_input, is_input_meant, reads_input, refusal_for, refusal_for_output, refusal_of_files, refusal_without_check, seeks_past_end, usage_text};
 
 use crate::usage::Usage;
 use crate::words::Words;
-use b3_check::{CheckOptions, Form, INPUT_NAME, KeyChoice, MAX_WORKERS, SumOptions};
+use b3_board::MAX_WORKERS;
+use b3_io::{CheckOptions, Form, INPUT_NAME, KeyChoice, Limits, SumOptions};
 
 /// The number of output bytes where no word says another.
 const DEFAULT_LENGTH: u32 = 32;
@@ -32,6 +33,24 @@ pub enum Job {
     Sum(SumOptions),
     /// The lists in them are checked.
     Check(CheckOptions),
+}
+
+impl Job {
+    /// How much of a file is read.
+    pub fn limits(&self) -> Limits
+        ensures { result ≡ limits_for self.now }
+    {
+        match self {
+            Job::Sum(options) => Limits {
+                turns: options.turns,
+                largest: options.largest,
+            },
+            Job::Check(options) => Limits {
+                turns: options.turns,
+                largest: options.largest,
+            },
+        }
+    }
 }
 
 /// Where the names of the files are.

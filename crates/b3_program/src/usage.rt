@@ -1,6 +1,6 @@
 ghost use Rattle.std.specs.Prelude.{◌≡◌, ◌++◌, [], string_bytes};
 
-use b3_check::prefixed;
+use b3_io::prefixed;
 
 /// Why the words of a call ask for nothing that can be done.
 #[derive(Clone, Copy, Debug, PartialEq, Eq)]

@@ -4,8 +4,9 @@
 //! do what they ask for.
 #![tactic(auto)]
 
+use b3_arguments::arguments;
 use b3_board::OpenGate;
-use b3_call::{arguments, call_with};
+use b3_call::call_with;
 use b3_files::{INPUT_PATHS, RealDisk, RealInput};
 use std::process::ExitCode;
 

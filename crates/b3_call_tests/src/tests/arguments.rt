@@ -1,7 +1,7 @@
 // The arguments of a call, as an environment gives them.
 
 use super::asserts::{assert_same, assert_same_for, assert_that, assert_that_for};
-use b3_call::arguments;
+use b3_arguments::arguments;
 use std::env::FillError;
 use std::io::{self, ErrorKind};
 use std::process::Abort;

@@ -2,7 +2,7 @@
 
 use super::asserts::{assert_same, assert_that, assert_that_for};
 use super::calls::arguments;
-use b3_call::read_words;
+use b3_arguments::read_words;
 use b3_check::{MAX_OUTPUT_LEN, MAX_WORKERS};
 use b3_program::{Job, Stop, Task, Usage, Words, settle};
 use std::alloc::{AllocError, Global};
