@@ -5,8 +5,7 @@ use Rattle.b3_io.specs.Contents.{Contents}
 use Rattle.b3_io.specs.Faults.{fault_text}
 use Rattle.b3_io.specs.Operands.{Operand, operands_in}
 use Rattle.b3_io.specs.Options.{check_limits, limits_of}
-use Rattle.b3_io.specs.Runs.{IoState, SinkState}
-use Rattle.b3_io.specs.Devices.{Runs}
+use Rattle.b3_io.specs.Runs.{IoState, Runs, SinkState}
 use Rattle.b3_io.specs.Scripts.{AgreesWith, Answer, Script, answer_of, report}
 use Rattle.b3_io.specs.Scripts.Kind.{Listed}
 use Rattle.b3_io.specs.Sinks.{GainsBeginning}

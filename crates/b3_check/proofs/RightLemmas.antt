@@ -29,8 +29,7 @@ use Rattle.b3_io.specs.Digests.{digest_of, digest_script, line_range, range_of}
 use Rattle.b3_check.specs.Laws.{IsJust, IsModeOf, LineIsRight, ListOperandIsRight, OperandIsRight, Says, Writes, WritesRightly, cannot_show, digest, total}
 use Rattle.b3_io.specs.Operands.{Operand}
 use Rattle.b3_io.specs.Operands.Operand.{Text, NotText}
-use Rattle.b3_io.specs.Runs.{IoState}
-use Rattle.b3_io.specs.Devices.{Runs}
+use Rattle.b3_io.specs.Runs.{IoState, Runs}
 use Rattle.b3_io.specs.Scripts.{AgreesWith, Answer, AnswersFirst, IsComplete, Report, Script, answer_of, followed_by, in_turn, joined, nothing, report, then_counted}
 use Rattle.b3_io.specs.Scripts.Kind.{Hashed, Key, Listed}
 use Rattle.b3_io.specs.Scripts.Script.{Ask, Done, Fail, Say}

@@ -12,8 +12,8 @@ ghost use Rattle.b3_check.specs.Laws.{AsksAll, File, IsThere, ListOperandIsRight
 ghost use Rattle.b3_io.specs.Operands.{operand_of, operands_left};
 ghost use Rattle.b3_io.specs.Operands.Operand.{Text};
 ghost use Rattle.b3_io.specs.Options.{CanCheck, check_limits};
-ghost use Rattle.b3_io.specs.Devices.{CanCount, Runs, loans, io_state_of};
-ghost use Rattle.b3_io.specs.Runs.{Ran, RanSurely, Stopped, io_state};
+ghost use Rattle.b3_devices.specs.Devices.{loans, io_state_of};
+ghost use Rattle.b3_io.specs.Runs.{CanCount, Ran, RanSurely, Runs, Stopped, io_state};
 ghost use Rattle.b3_io.specs.Sums.{shows_name};
 ghost use Rattle.b3_io.specs.Tallies.{status_of};
 ghost use Rattle.b3_io.specs.Tasks.{counted};
@@ -21,10 +21,11 @@ ghost use Rattle.b3_io.specs.declared.options.Form.{Form};
 
 use b3_board::Gate;
 use b3_core::Mode;
+use b3_devices::Devices;
 use b3_engine::Engine;
 use b3_io::{
-    CheckOptions, Devices, ListLines, ListReader, Message, Operand, Operands, OutputRange, Pool,
-    RunFault, Shelf, Sink, Tally,
+    CheckOptions, ListLines, ListReader, Message, Operand, Operands, OutputRange, Pool, RunFault,
+    Shelf, Sink, Tally,
 };
 use std::alloc::{AllocError, Global};
 use std::sync::Wait;

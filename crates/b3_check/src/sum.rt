@@ -8,8 +8,8 @@ ghost use Rattle.b3_io.specs.Operands.{operands_left};
 ghost use Rattle.b3_io.specs.Operands.Operand.{Text};
 ghost use Rattle.b3_io.specs.Options.{CanRun, limits_of};
 ghost use Rattle.b3_io.specs.Reading.{FindsMode};
-ghost use Rattle.b3_io.specs.Devices.{CanCount, Runs, loans, io_state_of};
-ghost use Rattle.b3_io.specs.Runs.{Ran, RanSurely, Stopped, io_state};
+ghost use Rattle.b3_devices.specs.Devices.{loans, io_state_of};
+ghost use Rattle.b3_io.specs.Runs.{CanCount, Ran, RanSurely, Runs, Stopped, io_state};
 ghost use Rattle.b3_io.specs.Scripts.{nothing};
 ghost use Rattle.b3_io.specs.Sums.{keys_asked, sum_script};
 ghost use Rattle.b3_io.specs.Tallies.{status_of};
@@ -17,11 +17,11 @@ ghost use Rattle.b3_io.specs.declared.options.Form.TheVariants.{Raw};
 
 use b3_board::Gate;
 use b3_core::Mode;
+use b3_devices::Devices;
 use b3_engine::Engine;
 use b3_hash::derive_mode;
 use b3_io::{
-    Devices, KeyChoice, Names, Operands, OutputRange, Pool, RunFault, Shelf, Sink, SumOptions,
-    Tally,
+    KeyChoice, Names, Operands, OutputRange, Pool, RunFault, Shelf, Sink, SumOptions, Tally,
 };
 use std::alloc::Global;
 use std::sync::Wait;

@@ -13,9 +13,8 @@ use Rattle.b3_io.specs.declared.shelf.NoContent.{NoContent}
 use Rattle.b3_io.specs.declared.tally.Tally.{Tally}
 use Rattle.b3_io.specs.Contents.{Contents, LacksContent}
 use Rattle.b3_engine.specs.Crews.{AheadState, HasCome, HasStopped, IsAt, IsLed, IsMessageFor, IsUnderWay, SaysAnswer, SaysContent, SoFar, also_failed, tasks_ahead}
-use Rattle.b3_io.specs.Devices.{CanCount}
 use Rattle.b3_io.specs.Owing.{WentOwing, on_out}
-use Rattle.b3_io.specs.Runs.{Broke, IoState, Stopped}
+use Rattle.b3_io.specs.Runs.{Broke, CanCount, IoState, Stopped}
 use Rattle.b3_io.specs.Scripts.{Answer, Given, Report, joined, unread}
 use Rattle.b3_io.specs.Scripts.Kind.{Hashed}
 use Rattle.b3_io.specs.Tallies.{tally_sum}

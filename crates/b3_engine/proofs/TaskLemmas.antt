@@ -20,8 +20,7 @@ use Rattle.b3_io.specs.Operands.{Operand}
 use Rattle.b3_io.specs.Operands.Operand.{Text, NotText}
 use Rattle.b3_io.specs.Owing.{RanOwing, on_out}
 use Rattle.b3_io.specs.Reading.{Digested}
-use Rattle.b3_io.specs.Runs.{Broke, Ran, IoState, Stopped, Went}
-use Rattle.b3_io.specs.Devices.{CanCount}
+use Rattle.b3_io.specs.Runs.{Broke, CanCount, IoState, Ran, Stopped, Went}
 use Rattle.b3_io.specs.Scripts.{AgreesWith, Given, Report, answer_of, followed_by, in_turn}
 use Rattle.b3_io.specs.Scripts.Kind.{Hashed}
 use Rattle.b3_io.specs.Scripts.Script.{Done, Say}

@@ -13,10 +13,9 @@ use Rattle.b3_io.specs.declared.output_range.OutputRange.{OutputRange}
 use Rattle.b3_io.specs.declared.saying.Saying.{Saying}
 use Rattle.b3_io.specs.declared.tally.Tally.{Tally}
 use Rattle.b3_io.specs.Contents.{Contents, HasContent}
-use Rattle.b3_io.specs.Devices.{CanCount}
 use Rattle.b3_io.specs.Digests.{digest_of}
 use Rattle.b3_io.specs.Owing.{RanOwing}
-use Rattle.b3_io.specs.Runs.{IoState, Stopped}
+use Rattle.b3_io.specs.Runs.{CanCount, IoState, Stopped}
 use Rattle.b3_io.specs.Scripts.{AgreesWith, Answer, Given, Report, unread}
 use Rattle.b3_io.specs.Scripts.Kind.{Hashed}
 use Rattle.b3_io.specs.Tasks.{Task, counted, name_asked, report_of, request_report, task_of, tasks_script}

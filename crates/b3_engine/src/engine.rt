@@ -2,9 +2,9 @@
 
 ghost use Rattle.std.specs.Prelude.{◌≡◌, ℕ, ◌+◌, ◌*◌, ◌-◌, ◌^◌, ◌<◌, ◌≤◌, ◌∷◌, List, true, length, vec_len, IfErr, IfOk, IfSome, OnOk};
 ghost use Rattle.std.specs.Arc.{arc_value};
-ghost use Rattle.b3_io.specs.Devices.{CanCount, Runs, loans, io_state_of};
+ghost use Rattle.b3_devices.specs.Devices.{loans, io_state_of};
 ghost use Rattle.b3_engine.specs.Crews.{IsLed, IsUnderWay, SoFar};
-ghost use Rattle.b3_io.specs.Runs.{Stopped};
+ghost use Rattle.b3_io.specs.Runs.{CanCount, Runs, Stopped};
 ghost use Rattle.b3_io.specs.declared.items.Item.{Item};
 ghost use Rattle.b3_io.specs.Tasks.{Task, counted, Finds, IsFit, name_asked, request_report, task_of, task_script, tasks_script};
 ghost use Rattle.b3_io.specs.Tasks.Task.{Find};
@@ -16,9 +16,10 @@ use crate::entry::Entry;
 use crate::name_hasher::{NameHasher, name_hashers};
 use crate::run_input::RunInput;
 use b3_board::Gate;
+use b3_devices::{Devices, Digester};
 use b3_io::{
-    AnyItem, Devices, Digester, Item, Limits, Message, OutputRange, Pool, READ_LEN, Request,
-    RunFault, Saying, Shelf, Sink, Tally, WorkItems,
+    AnyItem, Item, Limits, Message, OutputRange, Pool, READ_LEN, Request, RunFault, Saying, Shelf,
+    Sink, Tally, WorkItems,
 };
 use std::alloc::{AllocError, Global};
 use std::marker::Brand;

@@ -15,8 +15,7 @@ use Rattle.b3_io.specs.Checks.{Entry, decoded, entry_of, line_script, line_scrip
 use Rattle.b3_io.specs.Digests.{line_range}
 use Rattle.b3_io.specs.Operands.{Operand}
 use Rattle.b3_io.specs.Reading.{Answered}
-use Rattle.b3_io.specs.Runs.{Broke, Ran, IoState, Stopped, Went}
-use Rattle.b3_io.specs.Devices.{CanCount, Runs}
+use Rattle.b3_io.specs.Runs.{Broke, CanCount, IoState, Ran, Runs, Stopped, Went}
 use Rattle.b3_io.specs.Scripts.{Answer, Kind, Report, Script, followed_by, in_turn, then_counted}
 use Rattle.b3_io.specs.Scripts.Script.{Ask, Done, Say}
 use Rattle.b3_io.specs.Tallies.{no_tally, tally_sum}

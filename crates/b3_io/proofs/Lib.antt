@@ -12,5 +12,3 @@ pub mod ReadLemmas
 pub mod OperandLemmas
 -- Runs over lists of check lines.
 pub mod CheckLemmas
--- Parts of a content that is read at offsets: what the next region adds to those before it.
-pub mod PartLemmas

@@ -17,8 +17,7 @@ use Rattle.b3_io.specs.Scripts.{Answer, Kind, Report, Script, AnswersFirst, Agre
 use Rattle.b3_io.specs.Scripts.Script.{Done, Fail, Say, Ask}
 use Rattle.b3_io.specs.Sinks.{GainsBeginning}
 use Rattle.b3_io.specs.Reading.{Answered, FindsMode, FoundKey, FoundMode, FoundNoMode, IsReadingFault, Unanswered}
-use Rattle.b3_io.specs.Runs.{Broke, Gains, GainsPart, Heard, IsCausedBy, Ran, RanSurely, RanSurelyOver, IoState, SinkState, Stopped, Went, sink_failures}
-use Rattle.b3_io.specs.Devices.{CanCount, Runs}
+use Rattle.b3_io.specs.Runs.{Broke, CanCount, Gains, GainsPart, Heard, IoState, IsCausedBy, Ran, RanSurely, RanSurelyOver, Runs, SinkState, Stopped, Went, sink_failures}
 use Rattle.b3_io.proofs.Gains.{Appends-nil, Appends-append, GainsBeginning-all, GainsBeginning-append, GainsBeginning-longer, GainsBeginning-none}
 use Rattle.b3_io.proofs.ScriptLemmas.{AnswersFirst-append, AnswersFirst-longer, AnswersFirst-none, AsksNext-append, AsksNext-longer, FailsNext-append, FailsNext-longer, IsComplete-append, followed_by-counted, joined-nothing, next_of, nothing-joined, report-append, report-longer, unread-append}
 

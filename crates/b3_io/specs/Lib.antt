@@ -4,7 +4,6 @@ pub mod Tallies
 pub mod Faults
 pub mod Options
 pub mod Scripts
-pub mod Devices
 pub mod Runs
 pub mod Owing
 pub mod Digests
@@ -15,4 +14,3 @@ pub mod Tasks
 pub mod Reading
 pub mod MemoryShelves
 pub mod MemorySinks
-pub mod Parts

@@ -1,5 +1,5 @@
 -- What a run of a script did to a shelf and two sinks.
-use Rattle.std.specs.Prelude.{◌≡◌, ◌⊎◌, ⊤, ℕ, ◌+◌, ◌<◌, ◌≤◌, Bool, true, false, List, Option, None, Some, if◌then◌else◌, length}
+use Rattle.std.specs.Prelude.{◌≡◌, ◌⊎◌, ⊤, ℕ, ◌+◌, ◌-◌, ◌^◌, ◌<◌, ◌≤◌, Bool, true, false, List, Option, None, Some, Result, Ok, Err, if◌then◌else◌, length}
 use Rattle.std.specs.Io.KnownBytes.{Appends}
 use Rattle.b3_io.specs.declared.options.Limits.{Limits}
 use Rattle.b3_io.specs.declared.shelf.Shelf.{Ghosts as ShelfWords}
@@ -106,6 +106,17 @@ pub record Stopped (limits : Limits) (script : Script) (before after : IoState) 
   pub agree : AnswersFirst before.told before.sure script answers
   pub broke : Broke before after answers (report script answers) fault
   pub cause : IsCausedBy fault before.told limits script answers
+
+-- the run of a script, to its end or to a fault
+abbrev pub Runs : Limits → Script → IoState → IoState → Result Tally RunFault → Type 0
+Runs limits script before after (Ok tally) = Ran script before after tally
+Runs limits script before after (Err fault) = Stopped limits script before after fault
+
+-- so many further failures of the shelf can be counted, and one of each sink
+pub record CanCount (a : IoState) (count : ℕ) : Type 0 where
+  pub shelf : a.failures + count < 2 ^ 64 - 1
+  pub out : a.out.failures < 2 ^ 64 - 1
+  pub err : a.err.failures < 2 ^ 64 - 1
 
 -- over a shelf that tells its contents and fails nowhere else, the run's report is that of the contents
 pub record RanFrom (contents : Contents) (script : Script) (before after : IoState) (tally : Tally) : Type 0 where

@@ -2,10 +2,7 @@
 //! two sinks.
 #![tactic(auto)]
 
-mod at_offsets;
 mod buffer;
-mod devices;
-mod digester;
 mod fault;
 mod in_order;
 mod items;
@@ -28,10 +25,9 @@ mod tally;
 mod texts;
 mod writing;
 
-pub use buffer::READ_LEN;
-pub use devices::{Devices, say_after};
-pub use digester::Digester;
+pub use buffer::{Buffer, READ_LEN};
 pub use fault::RunFault;
+pub use in_order::hash_in_order;
 pub use items::{AnyItem, Item, Names, Request, WorkItems};
 pub use judging::{Answer, Verdict, judge};
 pub use key::KeyRead;

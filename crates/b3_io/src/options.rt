@@ -3,8 +3,6 @@
 ghost use Rattle.std.specs.Prelude.{◌≡◌};
 ghost use Rattle.b3_io.specs.Options.{check_limits, limits_of};
 
-use crate::buffer::READ_LEN;
-
 /// The greatest number of output bytes that a run writes of a digest.
 pub const MAX_OUTPUT_LEN: u32 = 1_048_576;
 
@@ -79,13 +77,6 @@ pub struct Limits {
     pub turns: u64,
     /// How many bytes a list may have.
     pub largest: u64,
-}
-
-impl Limits {
-    // Whether a file of so many bytes may be read in order: a read more finds its end.
-    pub(crate) fn allow(&self, len: u64) -> bool {
-        len.div_ceil(READ_LEN as u64) < self.turns
-    }
 }
 
 impl SumOptions {

@@ -8,7 +8,6 @@ ghost use Rattle.b3_program.specs.Usages.{excluded_by_check, excluded_by_tag, fi
 
 use crate::usage::Usage;
 use crate::words::Words;
-use b3_board::MAX_WORKERS;
 use b3_io::{CheckOptions, Form, INPUT_NAME, KeyChoice, Limits, SumOptions};
 
 /// The number of output bytes where no word says another.
@@ -19,6 +18,9 @@ const DEFAULT_SEEK: u64 = 0;
 
 /// The number of threads where no word says another.
 const DEFAULT_THREADS: u32 = 4;
+
+/// The most threads, as many as a pool takes, where a word asks for more.
+const MAX_THREADS: u32 = 64;
 
 /// How many reads a file may take.
 const TURNS: u64 = 1 << 40;
@@ -318,6 +320,6 @@ fn workers(threads: Option<u16>) -> u32
 {
     match threads {
         None | Some(0) => DEFAULT_THREADS,
-        Some(threads) => u32::from(threads).min(MAX_WORKERS),
+        Some(threads) => u32::from(threads).min(MAX_THREADS),
     }
 }

@@ -2,7 +2,8 @@ use Rattle.std.proofs.Common.{◌<◌, ◌^◌, Err, arith, length, refl, subst,
 use Rattle.std.proofs.lemmas.List.{length-map}
 use Rattle.std.proofs.lemmas.Result.{err_from_is_err_and}
 use Rattle.b3_core.specs.declared.modes.Mode.{Mode}
-use Rattle.b3_io.specs.Devices.{CanCount, io_state_of}
+use Rattle.b3_devices.specs.Devices.{io_state_of}
+use Rattle.b3_io.specs.Runs.{CanCount}
 use Rattle.b3_io.specs.Digests.{range_of}
 use Rattle.b3_io.specs.Operands.{operands_left}
 use Rattle.b3_io.specs.Sums.{names_script}

@@ -1,5 +1,5 @@
 use Rattle.std.proofs.Common.{◌≡◌, length}
-use Rattle.b3_io.specs.Devices.{loans, io_state_of}
+use Rattle.b3_devices.specs.Devices.{loans, io_state_of}
 use Rattle.b3_io.specs.Operands.{operands_left}
 use Rattle.b3_io.proofs.CheckLemmas.{ListsSoFar}
 use Rattle.b3_check.proofs.check.Checker.check_all.Given as goal

@@ -1,6 +1,6 @@
 use Rattle.std.proofs.Common.{◌≡◌, sym, ◌∙◌, ap, arith}
 use Rattle.std.proofs.lemmas.Result.{err_from_is_err_and}
-use Rattle.b3_io.specs.Devices.{io_state_of}
+use Rattle.b3_devices.specs.Devices.{io_state_of}
 use Rattle.b3_io.specs.Runs.{sink_state}
 use Rattle.b3_io.specs.Tasks.{IsFitItem, task_of}
 use Rattle.b3_io.specs.declared.items.Item.TheVariants.{Say as SayItem, Ask as AskItem}

@@ -1,4 +1,4 @@
-use Rattle.b3_io.specs.Devices.{io_state_of}
+use Rattle.b3_devices.specs.Devices.{io_state_of}
 use Rattle.b3_engine.proofs.engine.Engine.run_items.Given as goal
 
 abbrev pub ghosts-run_as : goal.ghosts-run_as

@@ -3,10 +3,10 @@ use Rattle.b3_core.specs.Tree.{top}
 use Rattle.b3_core.specs.declared.modes.Mode.{Mode}
 use Rattle.b3_hash.specs.Hashers.{length_of}
 use Rattle.b3_hash.proofs.Standing.{length-StandsFor}
-use Rattle.b3_io.specs.Parts.{IsPartOf}
-use Rattle.b3_io.specs.declared.at_offsets.TheConstants.{REGION_LEN, REGION_LEVEL}
-use Rattle.b3_io.proofs.PartLemmas.{ended}
-use Rattle.b3_io.proofs.at_offsets.hash_last_part.Goals as goal
+use Rattle.b3_devices.specs.Parts.{IsPartOf}
+use Rattle.b3_devices.specs.declared.at_offsets.TheConstants.{REGION_LEN, REGION_LEVEL}
+use Rattle.b3_devices.proofs.PartLemmas.{ended}
+use Rattle.b3_devices.proofs.at_offsets.hash_last_part.Goals as goal
 
 pub returns : goal.returns
 returns g c =

@@ -1,7 +1,7 @@
 use Rattle.std.proofs.Common.{refl, inl, arith}
 use Rattle.std.proofs.lemmas.Result.{err_from_is_err_and}
 use Rattle.b3_io.proofs.RunLemmas.{broke_err, not_asked}
-use Rattle.b3_io.proofs.devices.say_after.Goals as goal
+use Rattle.b3_devices.proofs.devices.say_after.Goals as goal
 
 pub returns-in_err-write_all-2 : goal.returns-in_err-write_all-2
 returns-in_err-write_all-2 g c =

@@ -3,18 +3,15 @@
 
 ghost use Rattle.std.specs.Option.{option_map};
 ghost use Rattle.std.specs.Prelude.{◌≡◌, ◌+◌, ◌*◌, ◌/◌, ◌^◌, ◌<◌, ◌≤◌, IfSome, IsSome, IsTrue, length};
-ghost use Rattle.b3_io.specs.Parts.{HasHashed, IsPartOf};
+ghost use Rattle.b3_devices.specs.Parts.{HasHashed, IsPartOf};
 ghost use Rattle.b3_io.specs.Reading.{IsOutputOf};
-ghost use Rattle.b3_io.specs.declared.at_offsets.TheConstants.{LEN_LIMIT, REGION_LEN};
+ghost use Rattle.b3_devices.specs.declared.at_offsets.TheConstants.{LEN_LIMIT, REGION_LEN};
 ghost use Rattle.b3_hash.specs.Hashers.{length_of};
 
-use crate::buffer::Buffer;
-use crate::options::Limits;
-use crate::pool::Pool;
-use crate::shelf::Shelf;
 use b3_board::{Gate, PIECE_LEN, Source, default_grain, hash_source};
 use b3_core::{CHUNK_LEN, Mode, Node, chunks};
 use b3_hash::{Hasher, Xof};
+use b3_io::{Buffer, Limits, Pool, READ_LEN, Shelf};
 use std::sync::Wait;
 use std::thread::Threads;
 
@@ -63,7 +60,7 @@ pub fn hash_at_offsets<R: Threads + Wait + Sync, G: Gate + Sync, S: Shelf + Send
 {
     let workers = pool.workers as usize;
     let len = shelf.len_hint();
-    if workers < 2 || len >= LEN_LIMIT || !limits.allow(len) {
+    if workers < 2 || len >= LEN_LIMIT || !limits_allow(limits, len) {
         return None;
     }
     let grain = grain_of(len, workers);
@@ -77,6 +74,11 @@ pub fn hash_at_offsets<R: Threads + Wait + Sync, G: Gate + Sync, S: Shelf + Send
         return None;
     };
     hash_regions(pool, shelf, mode, grain, len, front)
+}
+
+// Whether a file of so many bytes may be read in order: a read more finds its end.
+fn limits_allow(limits: Limits, len: u64) -> bool {
+    len.div_ceil(READ_LEN as u64) < limits.turns
 }
 
 // How many chunks the spans of a file of so many bytes have: as few as a board over a region takes, but those of a piece

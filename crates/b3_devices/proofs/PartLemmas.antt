@@ -13,8 +13,8 @@ use Rattle.b3_core.specs.declared.nodes.Node.{Node}
 use Rattle.b3_hash.specs.Hashers.{HasherState, StandsFor, length_of, mode_of}
 use Rattle.b3_hash.proofs.Standing.{length-StandsFor}
 use Rattle.b3_io.specs.Contents.{Contents}
-use Rattle.b3_io.specs.Parts.{HasHashed, IsPartOf}
-use Rattle.b3_io.specs.declared.at_offsets.TheConstants.{REGION_LEN, REGION_LEVEL}
+use Rattle.b3_devices.specs.Parts.{HasHashed, IsPartOf}
+use Rattle.b3_devices.specs.declared.at_offsets.TheConstants.{REGION_LEN, REGION_LEVEL}
 
 -- what is told of a part of a shelf's rest
 part_told : (told : Option Contents) (left : List ℕ) (offset len : ℕ) → IsSome told

@@ -1,6 +1,6 @@
 use Rattle.std.proofs.Common.{◌≡◌, length, take, rules}
-use Rattle.b3_io.proofs.PartLemmas.{one_of_two}
-use Rattle.b3_io.proofs.at_offsets.has_length.Goals as goal
+use Rattle.b3_devices.proofs.PartLemmas.{one_of_two}
+use Rattle.b3_devices.proofs.at_offsets.has_length.Goals as goal
 
 pub returns : goal.returns
 returns g c = λ is_one is_told.

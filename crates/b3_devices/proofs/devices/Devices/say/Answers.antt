@@ -1,7 +1,7 @@
 use Rattle.std.proofs.Common.{refl, arith}
 use Rattle.std.proofs.lemmas.Result.{err_from_is_err_and}
 use Rattle.b3_io.proofs.RunLemmas.{broke_err, broke_out, not_asked}
-use Rattle.b3_io.proofs.devices.Devices.say.Goals as goal
+use Rattle.b3_devices.proofs.devices.Devices.say.Goals as goal
 
 pub returns-in_err-write_all-clause-said : goal.returns-in_err-write_all-clause-said
 returns-in_err-write_all-clause-said g c =

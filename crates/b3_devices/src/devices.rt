@@ -5,21 +5,14 @@ ghost use Rattle.b3_io.specs.Contents.{input_name};
 ghost use Rattle.b3_io.specs.Owing.{SaysOwing, on_out};
 ghost use Rattle.b3_io.specs.Reading.{Answered, Asks, Hashes, key_answer};
 ghost use Rattle.b3_io.specs.Scripts.Kind.{Key, Listed};
-ghost use Rattle.b3_io.specs.Devices.{CanCount};
-ghost use Rattle.b3_io.specs.Runs.{io_state};
+ghost use Rattle.b3_io.specs.Runs.{CanCount, io_state};
 ghost use Rattle.b3_io.specs.Tasks.{Says, report_of};
 
 use crate::digester::Digester;
-use crate::fault::RunFault;
-use crate::key::KeyRead;
-use crate::lists::ListReader;
-use crate::message::Message;
-use crate::options::Limits;
-use crate::pool::Pool;
-use crate::shelf::{NoContent, Shelf};
-use crate::sink::Sink;
-use crate::writing::write_all;
 use b3_board::Gate;
+use b3_io::{
+    KeyRead, Limits, ListReader, Message, NoContent, Pool, RunFault, Shelf, Sink, write_all,
+};
 use std::sync::Wait;
 use std::thread::Threads;
 
@@ -45,7 +38,7 @@ impl<'s, 'o, 'e, S, O, E> Drop for Devices<'s, 'o, 'e, S, O, E> {
 }
 
 impl<'s, 'o, 'e, S: Shelf + Send + Sync, O: Sink, E: Sink> Devices<'s, 'o, 'e, S, O, E> {
-    ghost use Rattle.b3_io.specs.Devices.{CanCount, loans, io_state_of};
+    ghost use Rattle.b3_devices.specs.Devices.{loans, io_state_of};
 
     // The calls that read say of all three devices what their readers say of the shelf alone, since a run is told by
     // its I/O states.

@@ -1,7 +1,7 @@
 use Rattle.std.proofs.Common.{◌-◌, ◌≤◌}
 use Rattle.b3_hash.specs.Hashers.{length_of}
-use Rattle.b3_io.specs.Parts.{HasHashed}
-use Rattle.b3_io.proofs.at_offsets.hash_regions.Given as goal
+use Rattle.b3_devices.specs.Parts.{HasHashed}
+use Rattle.b3_devices.proofs.at_offsets.hash_regions.Given as goal
 
 -- the hasher stands for the regions before
 abbrev pub invariant-regions : goal.invariant-regions

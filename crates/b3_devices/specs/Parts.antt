@@ -6,7 +6,7 @@ use Rattle.b3_core.specs.declared.modes.Mode.{Mode}
 use Rattle.b3_core.specs.declared.nodes.Node.{Node}
 use Rattle.b3_hash.specs.Hashers.{HasherState, StandsFor, length_of, mode_of}
 use Rattle.b3_io.specs.Contents.{Contents}
-use Rattle.b3_io.specs.declared.at_offsets.TheConstants.{REGION_LEN}
+use Rattle.b3_devices.specs.declared.at_offsets.TheConstants.{REGION_LEN}
 
 -- the node is that of so many bytes, which stand at this offset of what is left, where contents are told
 pub record IsPartOf (told : Option Contents) (left : List ℕ) (mode : Mode) (offset len : ℕ) (node : Node) : Type 0 where

@@ -1,5 +1,5 @@
-use Rattle.b3_io.proofs.PartLemmas.{pushed}
-use Rattle.b3_io.proofs.at_offsets.push_region.Goals as goal
+use Rattle.b3_devices.proofs.PartLemmas.{pushed}
+use Rattle.b3_devices.proofs.at_offsets.push_region.Goals as goal
 
 pub returns-clause-hashed : goal.returns-clause-hashed
 returns-clause-hashed g c =

@@ -6,7 +6,7 @@ use Rattle.b3_io.specs.Reading.{IsOutputOf}
 use Rattle.b3_io.specs.Scripts.Kind.{Hashed}
 use Rattle.b3_io.specs.declared.shelf.NoContent.TheVariants.{CannotRead}
 use Rattle.b3_io.proofs.ReadLemmas.{agrees_failed, agrees_lacking, digest_none, digest_whole}
-use Rattle.b3_io.proofs.digester.Digester.hash_name.Goals as goal
+use Rattle.b3_devices.proofs.digester.Digester.hash_name.Goals as goal
 
 pub returns-clause-digest : goal.returns-clause-digest
 returns-clause-digest g c =

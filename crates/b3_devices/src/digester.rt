@@ -7,16 +7,10 @@ ghost use Rattle.b3_io.specs.Reading.{IsDigestOf, IsFaultOfRest, IsOutputOf, IsR
 ghost use Rattle.b3_io.specs.Scripts.Kind.{Hashed};
 
 use crate::at_offsets::hash_at_offsets;
-use crate::buffer::Buffer;
-use crate::fault::RunFault;
-use crate::in_order::hash_in_order;
-use crate::options::Limits;
-use crate::output_range::OutputRange;
-use crate::pool::Pool;
-use crate::shelf::{NoContent, Shelf};
 use b3_board::Gate;
 use b3_core::Mode;
 use b3_hash::Xof;
+use b3_io::{Buffer, Limits, NoContent, OutputRange, Pool, RunFault, Shelf, hash_in_order};
 use std::alloc::{AllocError, Global};
 use std::sync::Wait;
 use std::thread::Threads;
