@@ -1,5 +1,5 @@
 -- Tasks: their scripts, runs of the tasks so far, and those of one.
-use Rattle.std.proofs.Common.{◌≡◌, ℕ, ◌+◌, ◌*◌, ◌≤◌, ◌&&◌, true, false, if◌then◌else◌, Bool, List, [], ◌∷◌, ◌++◌, length, map, Option, None, Some, Ok, Err, codes, refl, sym, ◌∙◌, ap, append_assoc, length-append, inl, arith}
+use Rattle.std.proofs.Common.{◌≡◌, ℕ, ◌+◌, ◌*◌, ◌≤◌, ◌&&◌, true, false, if◌then◌else◌, Bool, List, [], ◌∷◌, ◌++◌, length, map, Option, None, Some, Result, Ok, Err, IfErr, OnOk, codes, refl, sym, ◌∙◌, ap, append_assoc, length-append, inl, arith}
 use Rattle.std.proofs.lemmas.List.{append-nil, map-append}
 use Rattle.b3_io.specs.declared.message.Message.{Message}
 use Rattle.b3_io.specs.declared.tally.Tally.{Tally}
@@ -18,7 +18,7 @@ use Rattle.b3_io.specs.Contents.{Contents, HasContent}
 use Rattle.b3_io.specs.Digests.{digest_of, digest_script}
 use Rattle.b3_io.specs.Operands.{Operand}
 use Rattle.b3_io.specs.Operands.Operand.{Text, NotText}
-use Rattle.b3_io.specs.Owing.{RanOwing, on_out}
+use Rattle.b3_io.specs.Owing.{RanOwing, SaysOwing, on_out}
 use Rattle.b3_io.specs.Reading.{Digested}
 use Rattle.b3_io.specs.Runs.{Broke, CanCount, IoState, Ran, Stopped, Went}
 use Rattle.b3_io.specs.Scripts.{AgreesWith, Given, Report, answer_of, followed_by, in_turn}
@@ -29,7 +29,7 @@ use Rattle.b3_io.specs.Tallies.{no_tally, one_failed, one_missing, tally_sum}
 use Rattle.b3_io.specs.Tasks.{counted, Found, Task, name_task, operand_task, report_of, request_report, task_script, tasks_script}
 use Rattle.b3_engine.specs.Crews.{SoFar}
 use Rattle.b3_io.specs.Tasks.Task.{Tell, Find}
-use Rattle.b3_engine.proofs.OwingLemmas.{owing_done, owing_stopped, owing_then, owing_written}
+use Rattle.b3_engine.proofs.OwingLemmas.{owing_done, owing_found, owing_stopped, owing_then, owing_written, stopped_found}
 use Rattle.b3_io.proofs.RunLemmas.{stopped_answered, stopped_at_once, stopped_early, stopped_said, went_nowhere}
 use Rattle.b3_io.proofs.ScriptLemmas.{in_turn-append, in_turn-more, joined-nothing}
 
@@ -116,6 +116,26 @@ pub so_far_stopped : {range : OutputRange} {all rest : List Task} {a b c : IoSta
     → Stopped limits (tasks_script range all) a c fault
 so_far_stopped {range} {all} {rest} {a} {b} {c} {v} {m} {limits} {fault} task so_far stopped =
     rw (so_far_script so_far) (owing_stopped so_far.ran (stopped_early (tasks_script range rest) stopped))
+
+-- what is found of the next task is said, and so one more is run
+pub so_far_said : {T : Type 0} (range : OutputRange) (all : List Task) (a : IoState) {b c : IoState} (d : IoState)
+    (v w : List ℕ) (m n : Tally) {message : Message} (task : Task) (result : Result T RunFault)
+    → Found (task_script range task) b c message → counted message.tally ≤ 2 → c.failures ≤ b.failures + 1
+    → SaysOwing (report_of message) c d v w result → OnOk result (n ≡ tally_sum m message.tally)
+    → OnOk result ((left : List Task) → SoFar range all (task ∷ left) a b v m → SoFar range all left a d w n)
+so_far_said range all a d v w m n task (Ok done) found two count said tally = λ left so_far.
+    rw tally (so_far_more task so_far (owing_found found said) two (omega (arith, count, said.went.heard.failures)))
+so_far_said range all a d v w m n task (Err fault) found two count said tally = tt
+
+-- or the run stops at it
+pub so_far_unsaid : {T : Type 0} (range : OutputRange) (all : List Task) (a : IoState) {b c : IoState} (d : IoState)
+    (v w : List ℕ) (m : Tally) {message : Message} (limits : Limits) (task : Task) (result : Result T RunFault)
+    → Found (task_script range task) b c message → SaysOwing (report_of message) c d v w result
+    → IfErr result (λ fault. (left : List Task) → SoFar range all (task ∷ left) a b v m
+    → Stopped limits (tasks_script range all) a d fault)
+so_far_unsaid range all a d v w m limits task (Ok done) found said = tt
+so_far_unsaid range all a d v w m limits task (Err fault) found said = λ left so_far.
+    so_far_stopped task so_far (stopped_found found said.0 said.1)
 
 -- a run stops before the next task
 pub so_far_refused : {range : OutputRange} {all left : List Task} {a b : IoState} {v : List ℕ} {m : Tally} {limits : Limits}

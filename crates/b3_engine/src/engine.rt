@@ -4,9 +4,11 @@ ghost use Rattle.std.specs.Prelude.{◌≡◌, ℕ, ◌+◌, ◌*◌, ◌-◌, �
 ghost use Rattle.std.specs.Arc.{arc_value};
 ghost use Rattle.b3_devices.specs.Devices.{loans, io_state_of};
 ghost use Rattle.b3_engine.specs.Crews.{IsLed, IsUnderWay, SoFar};
+ghost use Rattle.b3_io.specs.Owing.{SaysOwing};
 ghost use Rattle.b3_io.specs.Runs.{CanCount, Runs, Stopped};
 ghost use Rattle.b3_io.specs.declared.items.Item.{Item};
-ghost use Rattle.b3_io.specs.Tasks.{Task, counted, Finds, IsFit, name_asked, request_report, task_of, task_script, tasks_script};
+ghost use Rattle.b3_io.specs.Tallies.{tally_sum};
+ghost use Rattle.b3_io.specs.Tasks.{Task, counted, Finds, IsFit, name_asked, report_of, request_report, task_of, task_script, tasks_script};
 ghost use Rattle.b3_io.specs.Tasks.Task.{Find};
 
 use crate::ahead::{Ahead, Front};
@@ -300,17 +302,12 @@ impl<'c, R: Threads + Wait + Sync, G: Gate + Sync> Engine<'c, R, G> {
         ensures same_range { self.new.digester.range ≡ self.old.digester.range }
     {
         match entry.item() {
-            Item::Say(message) => {
-                devices.say_after(lines, message, false)?;
-                tally.add(&message.tally);
-            }
+            Item::Say(message) => say(devices, message, lines, tally),
             Item::Ask(request) => {
                 let message = self.message_of(devices, request)?;
-                devices.say_after(lines, &message, false)?;
-                tally.add(&message.tally);
+                say(devices, &message, lines, tally)
             }
         }
-        Ok(())
     }
 
     // What is to be said of a name, which is hashed in its turn.
@@ -337,6 +334,26 @@ impl<'c, R: Threads + Wait + Sync, G: Gate + Sync> Engine<'c, R, G> {
         };
         Ok(request.message(self.alloc, digest)?)
     }
+}
+
+// Says a message, and counts it.
+fn say<S: Shelf + Send + Sync, O: Sink, E: Sink>(
+    devices: &mut Devices<'_, '_, '_, S, O, E>,
+    message: &Message,
+    lines: &mut Vec<u8>,
+    tally: &mut Tally,
+) -> Result<(), RunFault>
+    requires countable { CanCount (io_state_of S.Shelf O.Sink E.Sink devices.old) 0 }
+    requires room { counted tally.old + counted message.now.tally < 2 ^ 64 }
+    ensures said { SaysOwing (report_of message.now) (io_state_of S.Shelf O.Sink E.Sink devices.old)
+        (io_state_of S.Shelf O.Sink E.Sink devices.new) lines.old.items lines.new.items result }
+    ensures counted { OnOk result (tally.new ≡ tally_sum tally.old message.now.tally) }
+    ensures shelf_count { S.failures devices.new.shelf.now ≤ S.failures devices.old.shelf.now }
+    ensures loans { loans devices.new ≡ loans devices.old }
+{
+    devices.say_after(lines, message, false)?;
+    tally.add(&message.tally);
+    Ok(())
 }
 
 // How many bytes a content may have that is hashed beside others.

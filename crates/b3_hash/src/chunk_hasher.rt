@@ -82,7 +82,7 @@ impl ChunkHasher {
 
     // Takes in the next bytes: first as many as the open chunk has room for. Hands back the last window,
     // where the bytes then end with one.
-    pub(crate) fn append(&mut self, input: &[u8]) -> Option<Window>
+    fn append(&mut self, input: &[u8]) -> Option<Window>
         requires { chunks_len self.old + length input.now < 2 ^ 64 }
         ensures mode { self.new.mode ≡ self.old.mode }
         ensures len { chunks_len self.new + window_len result ≡ chunks_len self.old + length input.now }
@@ -170,7 +170,7 @@ impl ChunkHasher {
 
     // Takes in bytes where the open chunk has none, and hands back the last window, where they end with one.
     // After closed chunks there has to be a byte, since one of them would else be the last.
-    pub(crate) fn append_chunks(&mut self, input: &[u8]) -> Option<Window>
+    fn append_chunks(&mut self, input: &[u8]) -> Option<Window>
         requires empty { chunk_state_len self.old.chunk_state ≡ 0 }
         requires fits { chunks_len self.old + length input.now < 2 ^ 64 }
         ensures mode { self.new.mode ≡ self.old.mode }
@@ -193,6 +193,29 @@ impl ChunkHasher {
         }
         self.last.append(&self.mode, self.closed.chunks, last.bytes);
         None
+    }
+
+    // Takes in the last window so far, where there is one, and then the next bytes, of which there is at least one. Hands back
+    // the last window, where the bytes end with one.
+    #[inline]
+    pub(crate) fn append_after(&mut self, window: &Option<Window>, input: &[u8]) -> Option<Window>
+        requires valid_window { HasValidWindow self.old window.now }
+        requires some { 0 < length input.now }
+        requires fits { chunks_len self.old + window_len window.now + length input.now < 2 ^ 64 }
+        ensures mode { self.new.mode ≡ self.old.mode }
+        ensures len { chunks_len self.new + window_len result
+            ≡ chunks_len self.old + window_len window.now + length input.now }
+        ensures valid_window { HasValidWindow self.new result }
+        ensures ends_with { (before : List ℕ) → EndsWith self.old window.now before
+            → EndsWith self.new result (before ++ input.now) }
+    {
+        match window {
+            Some(window) => {
+                self.push_subtree(&window.node, window.level);
+                self.append_chunks(input)
+            }
+            None => self.append(input),
+        }
     }
 
     // Closes the last chunk, which is full, if there is one.

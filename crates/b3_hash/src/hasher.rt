@@ -1,7 +1,7 @@
 // The incremental hash of an input (BLAKE3 (2020), 5.1).
 
 ghost use Rattle.std.specs.Prelude.{◌≡◌, ℕ, ◌+◌, ◌*◌, ◌/◌, ◌%◌, ◌^◌, ◌<◌, ◌≤◌, ◌↔◌, [], ◌++◌, List, None, Some};
-ghost use Rattle.std.specs.Prelude.{codes, length, IsErr, OnErr, OnOk};
+ghost use Rattle.std.specs.Prelude.{codes, length, IsErr, IsTrue, OnErr, OnOk};
 
 use crate::chunk_hasher::ChunkHasher;
 use crate::output::Xof;
@@ -129,7 +129,7 @@ impl Hasher {
         ensures mode { mode_of self.new ≡ mode_of self.old }
         ensures unchanged { OnErr result (self.new ≡ self.old) }
     {
-        if self.window.is_none() && self.chunks.has_room_in_block(input.len()) {
+        if self.has_room_in_block(input.len()) {
             self.chunks.extend_block(input);
             return Ok(());
         }
@@ -153,6 +153,17 @@ impl Hasher {
         Ok(())
     }
 
+    // Whether the open block takes so many bytes: there is no window, and it has room for them.
+    #[inline]
+    fn has_room_in_block(&self, count: usize) -> bool
+        ensures none { IsTrue result → self.now.window ≡ None }
+        ensures block { IsTrue result → length self.now.chunks.chunk_state.block + count ≤ 64 }
+        ensures chunk { IsTrue result → chunk_state_len self.now.chunks.chunk_state + count ≤ 1024 }
+        ensures input { IsTrue result → chunks_len self.now.chunks + count < 2 ^ 64 }
+    {
+        self.window.is_none() && self.chunks.has_room_in_block(count)
+    }
+
     // Takes in the next bytes; a window is closed only where there is one.
     fn append(&mut self, input: &[u8])
         requires { length_of self.old + length input.now < 2 ^ 64 }
@@ -161,7 +172,7 @@ impl Hasher {
         ensures stands_for { (before : List ℕ) → StandsFor self.old before
             → StandsFor self.new (before ++ input.now) }
     {
-        if self.window.is_none() && input.len() <= self.chunks.room() {
+        if self.has_room_in_chunk(input.len()) {
             self.chunks.extend_chunk(input);
             return;
         }
@@ -182,18 +193,20 @@ impl Hasher {
         ensures stands_for { (before : List ℕ) → StandsFor self.old before
             → StandsFor self.new (before ++ input.now) }
     {
-        let last = match self.window {
-            Some(window) => {
-                self.window = None;
-                self.chunks.push_subtree(&window.node, window.level);
-                self.chunks.append_chunks(input)
-            }
-            None => self.chunks.append(input),
-        };
-        // There is no window now: to write none over it would cost a copy of its place.
-        if last.is_some() {
-            self.window = last;
+        // A window is stored only where there is one: to store the answer as it is would copy the place of one each time.
+        match self.chunks.append_after(&self.window, input) {
+            Some(last) => self.window = Some(last),
+            None => self.window = None,
         }
+    }
+
+    // Whether the open chunk takes so many bytes: there is no window, and it has room for them.
+    #[inline]
+    fn has_room_in_chunk(&self, count: usize) -> bool
+        ensures none { IsTrue result → self.now.window ≡ None }
+        ensures room { IsTrue result → chunk_state_len self.now.chunks.chunk_state + count ≤ 1024 }
+    {
+        self.window.is_none() && count <= self.chunks.room()
     }
 
     /// Takes in the next 2^level chunks of the input, a window, by the node of their subtree: their

@@ -1,6 +1,6 @@
 //! What is said to the two sinks.
 
-ghost use Rattle.std.specs.Prelude.{◌≡◌, ◌++◌, ◌^◌, ◌<◌, ◌≤◌, true, false, IfOk, option_copied};
+ghost use Rattle.std.specs.Prelude.{if◌then◌else◌, [], ◌≡◌, ◌++◌, ◌^◌, ◌<◌, ◌≤◌, true, false, IfOk, option_copied};
 ghost use Rattle.std.specs.String.{string_bytes};
 ghost use Rattle.hex.specs.Hex.{encode_lower};
 ghost use Rattle.b3_lines.specs.Writing.{plain, tagged};
@@ -86,13 +86,9 @@ impl Message {
     {
         let is_unverified = options.ignore_missing && tally.is_unverified();
         let has_no_line = options.strict && tally.has_no_line();
-        let mut text = Vec::new(alloc);
-        if is_unverified {
-            text = complaint(alloc, name, "no file was verified")?;
-        }
-        if has_no_line {
-            text.extend_from_slice(complaint(alloc, name, "no check line found")?.as_slice())?;
-        }
+        let mut text = complaint_if(alloc, is_unverified, name, "no file was verified")?;
+        let more = complaint_if(alloc, has_no_line, name, "no check line found")?;
+        text.extend_from_slice(more.as_slice())?;
         let lists = u64::from(is_unverified || has_no_line);
         let none = Tally::none();
         Ok(Message::on_err(alloc, options, text, Tally { lists, ..none }))
@@ -241,6 +237,17 @@ fn answer(digest: Result<&[u8], NoContent>) -> Answer
     let mut digest = [0; 32];
     digest.copy_from_slice(bytes);
     Answer::Digest(digest)
+}
+
+// What is said of a name for this reason, if it is one.
+fn complaint_if(alloc: Global, is_due: bool, name: &str, why: &str) -> Result<Vec<u8>, AllocError>
+    ensures { IfOk result (λ text. text.items ≡ (if is_due then complaint name.now why.now else [])) }
+{
+    if is_due {
+        complaint(alloc, name, why)
+    } else {
+        Ok(Vec::new(alloc))
+    }
 }
 
 // The same text, but none where the status alone is to tell.

@@ -1,7 +1,7 @@
-use Rattle.std.proofs.Common.{◌∙◌, refl}
+use Rattle.std.proofs.Common.{◌∙◌, arith, refl}
 use Rattle.std.proofs.lemmas.Result.{err_from_is_err_and}
 use Rattle.b3_io.specs.Operands.{operand_of}
-use Rattle.b3_io.proofs.CheckLemmas.{lists_more, lists_none, lists_stopped}
+use Rattle.b3_io.proofs.CheckLemmas.{lists_counted, lists_more, lists_none, lists_stopped}
 use Rattle.b3_check.proofs.check.Checker.check_all.Goals as goal
 
 pub returns-in_err-one-clause-run : goal.returns-in_err-one-clause-run
@@ -27,4 +27,20 @@ loop-list-preserved g c =
       so_far = rw c.add.ensures (lists_more (operand_of c.in-Some.list) so_far ran count failures);
       loans = one.loans ∙ held.loans;
       options = one.options ∙ held.options;
+    }
+
+pub add-requires : goal.add-requires
+add-requires g c =
+    let held = c.loop-list.invariant in
+    let small = c.args.self.now.largest in
+    let so_far = rw c.in-Some.ensures.next at held.so_far in
+    let before = lists_counted c.requires.lists small so_far in
+    let count = rw held.options at c.in_ok-one.ensures.count in
+    record {
+      ok = omega (arith, before, count, small);
+      failed = omega (arith, before, count, small);
+      lists = omega (arith, before, count, small);
+      differing = omega (arith, before, count, small);
+      malformed = omega (arith, before, count, small);
+      missing = omega (arith, before, count, small);
     }
