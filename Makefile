@@ -4,7 +4,8 @@
 #                   /usr/local; make uninstall removes them
 # make lib          proves the hasher, and builds it as a C library, libb3.a and libb3.so, for this processor or CPU
 # make install-lib  installs the library, its header and b3.pc below PREFIX
-# make check        proves what changed since its last run, and runs the tests of that
+# make check        proves what changed since its last run, over the proofs that it keeps, runs the tests of that, and builds
+#                   ./b3sum: for who changes something, as make proves whole crates anew
 # make test         is the gate: all proofs, the must-fail edits, all tests and the stored run; and on the program that it
 #                   built a shorter soak, and compare with a plain b3sum in Python
 #
@@ -47,8 +48,9 @@ FLAGS = --cpu=$(CPU)
 TASKS := $(shell awk -v processors=$$(nproc) '/^MemAvailable/ { tasks = int($$2 / 5 / 1024 / 1024); \
     if (tasks > processors) tasks = processors; print (tasks > 1 ? tasks : 1) }' /proc/meminfo)
 
-# With their folders, since a folder is newer than the program once a file in it was added or removed.
-SOURCES := crates.txt $(shell find crates/*/ -mindepth 1 \( -name out -o -name must-fail \) -prune -o -print)
+# Those of the program, with their folders, since a folder is newer than it once a file in it was added or removed.
+CRATES := $(filter-out crates/%_tests/ $(addprefix crates/,b3_laws/ b3_bench/ b3_c/),$(wildcard crates/*/))
+SOURCES := crates.txt $(shell find $(CRATES) -mindepth 1 \( -name out -o -name must-fail \) -prune -o -print)
 
 LIBRARY_SOURCES := crates.txt $(shell find $(addprefix crates/,b3_core b3_hash b3_c) -mindepth 1 \
     \( -name out -o -name must-fail \) -prune -o -print)
@@ -58,7 +60,7 @@ LIBRARY_SOURCES := crates.txt $(shell find $(addprefix crates/,b3_core b3_hash b
 
 all: b3sum
 	@echo './b3sum is proved and built. To install it below $(PREFIX): make install'
-	@echo 'After a change: make check proves what changed and runs its tests. See CONTRIBUTING.md.'
+	@echo 'After a change: make check proves what changed, runs its tests and builds ./b3sum. See CONTRIBUTING.md.'
 
 # Such a file changes, and so what it is of is built again, when another level is asked for.
 b3sum.cpu libb3.cpu: force
@@ -125,8 +127,8 @@ dist-test:
 
 force:
 
-check:
-	tools/check
+check: b3sum.cpu
+	tools/check $(FLAGS)
 
 test:
 	RT_JOBS=$${RT_JOBS:-$(TASKS)} tools/gate

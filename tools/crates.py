@@ -19,3 +19,14 @@ def crates_below():
         return {name}.union(*(below(other) for other in direct[name] if other in direct))
 
     return {name: below(name) for name in direct}
+
+
+def files_of(name, *parts):
+    """The files below these parts of a crate's folder."""
+    folder = ROOT / "crates" / name
+    return sorted(it for part in parts for it in (folder / part).rglob("*") if it.is_file())
+
+
+def own_texts(name):
+    """Everything that the proof of a crate is made from: its files, and what each holds."""
+    return [(str(it.relative_to(ROOT)), it.read_text()) for it in files_of(name, "src", "specs", "proofs")]

@@ -7,10 +7,8 @@ from concurrent.futures import ThreadPoolExecutor
 from pathlib import Path
 
 from dist_common import ENVIRONMENT, LEVELS, ROOT, WORK, empty, put, run, stop
+from kit import OF_C
 
-KIT = Path(shutil.which("rt") or "rt").resolve().parent.parent
-# What each program that is linked needs of the kit beside the objects: its calls of the system.
-OF_KIT = [KIT / "c/libos_c.a", KIT / "c/liblibc_c.a"]
 # The objects with what links them, and a copy with what they are linked to.
 OBJECTS, LINKED = WORK / "objects", WORK / "linked"
 STATIC, DYNAMIC = LINKED / "b3sum", LINKED / "b3sum.dynamic"
@@ -30,8 +28,6 @@ def missing():
         words = ["cc", "-fsyntax-only", ROOT / "release/choose.c"]
         if subprocess.run(words, stdout=subprocess.DEVNULL, stderr=subprocess.DEVNULL).returncode:
             lines.append("sys/platform/x86.h is not there: it is a part of glibc from 2.33 on (Debian: libc6-dev)")
-    if " avx2 " not in Path("/proc/cpuinfo").read_text():
-        lines.append(f"this processor has no AVX2: rt runs what it builds, and so cannot build for {LEVELS[-1]}")
     return lines
 
 
@@ -40,9 +36,9 @@ def libc():
     return Path(run("cc", "-print-file-name=libc.a"))
 
 
-def proved(root, product, level):
-    """Proves and compiles a product for a level in a checkout, and tells how far that is: the prover's last line."""
-    words = [root / "tools/prove", OBJECTS / level / product, f"--cpu={level}"]
+def proved(product, level):
+    """Proves and compiles a product for a level, and tells how far that is: the prover's last line."""
+    words = [ROOT / "tools/prove", OBJECTS / level / product, f"--cpu={level}"]
     lines = []
     with subprocess.Popen(words, env=ENVIRONMENT, stdin=subprocess.DEVNULL, stdout=subprocess.PIPE, text=True) as prover:
         for line in prover.stdout:
@@ -51,31 +47,13 @@ def proved(root, product, level):
     found = [line for line in lines if line.startswith("logic=proved ")]
     if prover.returncode or len(found) != 1 or level_of(found[0]) != level:
         stop(f"{product} is not proved for {level}")
-    # What an earlier run in this folder had proved is told apart by a word alone. The same sources must give the same text.
-    return " ".join(it for it in found[0].split() if it != "incremental=trusted")
+    return found[0]
 
 
-def proved_all(level, root=ROOT):
+def proved_all(level):
     """The prover's last lines for what there is for a level, by level and product."""
     (OBJECTS / level).mkdir(parents=True)
-    return {f"{level}/{product}": proved(root, product, level) for product in PRODUCTS}
-
-
-def proved_beside(level):
-    """The same in a copy of the checkout: rt lets one run work in a crate at a time. The libraries of the copy are proved."""
-    root = WORK / "beside" / level
-    for folder in ("crates", "tools"):
-        shutil.copytree(ROOT / folder, root / folder, ignore=not_needed)
-    for file in ("crates.txt", "HANDLES"):
-        shutil.copy(ROOT / file, root)
-    verdicts = proved_all(level, root)
-    shutil.rmtree(root)
-    return verdicts
-
-
-def not_needed(_, names):
-    """What need not be copied of a folder: wrong bodies, and what was kept to prove a library anew."""
-    return {"must-fail", "incremental"} if "rlib" in names else {"must-fail"}
+    return {f"{level}/{product}": proved(product, level) for product in PRODUCTS}
 
 
 def level_of(verdict):
@@ -87,9 +65,10 @@ def built():
     """Builds all, and returns the prover's last lines by level and product."""
     empty(WORK)
     first, *others = LEVELS
+    # The libraries below are proved once, with the first.
     verdicts = proved_all(first)
     with ThreadPoolExecutor(len(others)) as pool:
-        for more in pool.map(proved_beside, others):
+        for more in pool.map(proved_all, others):
             verdicts |= more
     link()
     return verdicts
@@ -103,7 +82,7 @@ def link():
         if names != "main":
             stop(f"b3sum.o for {level} defines more than main: {names}")
     put(ROOT / "release/link", OBJECTS / "link", 0o755)
-    for path in (ROOT / "release/choose.c", *OF_KIT):
+    for path in (ROOT / "release/choose.c", *OF_C):
         put(path, OBJECTS / path.name)
     shutil.copytree(OBJECTS, LINKED)
     run("./link", cwd=LINKED)

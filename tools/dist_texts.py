@@ -5,8 +5,9 @@ from dataclasses import dataclass
 from datetime import datetime, timezone
 
 from crates import crates_below
-from dist_build import KIT, OBJECTS, libc
+from dist_build import OBJECTS, libc
 from dist_common import LEVELS, ROOT, filled, program_version, run, sha256, stop
+from kit import KIT
 
 LICENCE = ROOT / "LICENSE"
 NO_LICENCE = "No licence has been chosen: all rights are reserved."
