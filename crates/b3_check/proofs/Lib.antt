@@ -4,3 +4,5 @@ pub mod RightLemmas
 pub mod VerifiedLemmas
 -- What sums and checks of known files say: their reports, and that the lines of files read back.
 pub mod LawLemmas
+-- What is said after a run, by what was counted in it, as a run of its own.
+pub mod Ends

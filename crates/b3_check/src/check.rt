@@ -14,18 +14,21 @@ ghost use Rattle.b3_io.specs.Operands.Operand.{Text};
 ghost use Rattle.b3_io.specs.Options.{CanCheck, check_limits};
 ghost use Rattle.b3_devices.specs.Devices.{loans, io_state_of};
 ghost use Rattle.b3_io.specs.Runs.{CanCount, Ran, RanSurely, Runs, Stopped, io_state};
+ghost use Rattle.b3_io.specs.Scripts.{Report};
+ghost use Rattle.b3_io.specs.Scripts.Script.{Done, Say};
 ghost use Rattle.b3_io.specs.Sums.{shows_name};
 ghost use Rattle.b3_io.specs.Tallies.{status_of};
-ghost use Rattle.b3_io.specs.Tasks.{counted};
+ghost use Rattle.b3_io.specs.Tasks.{counted, report_of, tasks_script};
 ghost use Rattle.b3_io.specs.declared.options.Form.{Form};
+ghost use Rattle.b3_io.specs.declared.options.Limits.{Limits};
 
 use b3_board::Gate;
 use b3_core::Mode;
 use b3_devices::Devices;
 use b3_engine::Engine;
 use b3_io::{
-    CheckOptions, ListLines, ListReader, Message, Operand, Operands, OutputRange, Pool, RunFault,
-    Shelf, Sink, Tally,
+    CheckOptions, Item, ListLines, ListReader, Message, Operand, Operands, OutputRange, Pool,
+    RunFault, Shelf, Sink, Tally, WorkItems,
 };
 use std::alloc::{AllocError, Global};
 use std::sync::Wait;
@@ -157,11 +160,31 @@ fn check_lists<R: Threads + Wait + Sync, G: Gate + Sync, S: Shelf + Send + Sync,
         ≤ S.failures devices.old.shelf.now + length (operands_left lists.entry) * (1 + options.now.largest) }
     ensures loans { loans devices.new ≡ loans devices.old }
 {
-    let mut checker = Checker::new(alloc, pool, options)?;
-    let tally = checker.check_all(devices, lists)?;
-    let message = Message::warning(alloc, options, &tally)?;
-    devices.say(&message)?;
+    let tally = run_lists(alloc, pool, devices, lists, options)?;
+    say(devices, Message::warning(alloc, options, &tally))?;
     Ok(tally)
+}
+
+// Checks lists alone, one after the other.
+fn run_lists<R: Threads + Wait + Sync, G: Gate + Sync, S: Shelf + Send + Sync, O: Sink, E: Sink>(
+    alloc: Global,
+    pool: Pool<'_, R, G>,
+    devices: &mut Devices<'_, '_, '_, S, O, E>,
+    lists: Operands<'_>,
+    options: &CheckOptions,
+) -> Result<Tally, RunFault>
+    requires options { CanCheck options.now }
+    requires lists { length (operands_left lists) ≤ 2 ^ 30 }
+    requires countable { CanCount (io_state_of S.Shelf O.Sink E.Sink devices.old)
+        (length (operands_left lists) * (1 + options.now.largest)) }
+    ensures run { Runs (check_limits options.now) (lists_script options.now (operands_left lists.entry))
+        (io_state_of S.Shelf O.Sink E.Sink devices.old) (io_state_of S.Shelf O.Sink E.Sink devices.new) result }
+    ensures shelf_count { S.failures devices.new.shelf.now
+        ≤ S.failures devices.old.shelf.now + length (operands_left lists.entry) * (1 + options.now.largest) }
+    ensures loans { loans devices.new ≡ loans devices.old }
+{
+    let mut checker = Checker::new(alloc, pool, options)?;
+    checker.check_all(devices, lists)
 }
 
 /// Checks lists over the same memory.
@@ -244,9 +267,10 @@ impl<'c, R: Threads + Wait + Sync, G: Gate + Sync> Checker<'c, R, G> {
         match list {
             Operand::Text(name) => self.check_list(devices, name),
             Operand::NotText(names, number) => {
-                let message = Message::unnamed_list(self.alloc, &self.options, names, number)?;
-                devices.say(&message)?;
-                Ok(message.tally)
+                say(
+                    devices,
+                    Message::unnamed_list(self.alloc, &self.options, names, number),
+                )
             }
         }
     }
@@ -269,15 +293,14 @@ impl<'c, R: Threads + Wait + Sync, G: Gate + Sync> Checker<'c, R, G> {
         let limits = self.options.limits();
         match devices.read_list(&mut self.reader, name, limits)? {
             Ok(()) => self.check_lines(devices, name),
-            Err(_) => {
-                let message = Message::unread_list(self.alloc, &self.options, name)?;
-                devices.say(&message)?;
-                Ok(message.tally)
-            }
+            Err(_) => say(
+                devices,
+                Message::unread_list(self.alloc, &self.options, name),
+            ),
         }
     }
 
-    // Checks the lines of the list of this name, which was read.
+    // Checks the lines of the list of this name, which was read, and says what is wrong with it as a whole.
     fn check_lines<S: Shelf + Send + Sync, O: Sink, E: Sink>(
         &mut self,
         devices: &mut Devices<'_, '_, '_, S, O, E>,
@@ -295,11 +318,54 @@ impl<'c, R: Threads + Wait + Sync, G: Gate + Sync> Checker<'c, R, G> {
         ensures options { self.new.options ≡ self.old.options }
     {
         let (alloc, options) = (self.alloc, self.options);
-        let mut work = ListLines::new(alloc, options, name, FIRST_LINE, self.reader.text());
-        let mut tally = self.engine.run(devices, &mut work)?;
-        let message = Message::list_end(alloc, &options, name, &tally)?;
-        devices.say(&message)?;
-        tally.add(&message.tally);
+        let mut lines = ListLines::new(alloc, options, name, FIRST_LINE, self.reader.text());
+        let mut tally = do_lines(&mut self.engine, devices, &mut lines)?;
+        let end = say(devices, Message::list_end(alloc, &options, name, &tally))?;
+        tally.add(&end);
         Ok(tally)
     }
+}
+
+// Checks the lines of a list. The call of the engine stands alone, over lines that are lent: beside lines that are
+// owned its proof is dear.
+fn do_lines<'p, R: Threads + Wait + Sync, G: Gate + Sync, S: Shelf + Send + Sync, O: Sink, E: Sink>(
+    engine: &mut Engine<'_, R, G>,
+    devices: &mut Devices<'_, '_, '_, S, O, E>,
+    lines: &mut ListLines<'p>,
+) -> Result<Tally, RunFault>
+    requires fits { ⟦<ListLines<'p> as WorkItems<Item<'p>>>⟧.fits lines.old engine.old.digester.range.length ≡ true }
+    requires few { length (⟦<ListLines<'p> as WorkItems<Item<'p>>>⟧.left lines.old) < 2 ^ 63 }
+    requires countable { CanCount (io_state_of S.Shelf O.Sink E.Sink devices.old)
+        (length (⟦<ListLines<'p> as WorkItems<Item<'p>>>⟧.left lines.old)) }
+    ensures run { Runs engine.old.limits
+        (tasks_script engine.old.digester.range (⟦<ListLines<'p> as WorkItems<Item<'p>>>⟧.left lines.old))
+        (io_state_of S.Shelf O.Sink E.Sink devices.old) (io_state_of S.Shelf O.Sink E.Sink devices.new) result }
+    ensures count { IfOk result (λ tally. counted tally
+        ≤ 2 * length (⟦<ListLines<'p> as WorkItems<Item<'p>>>⟧.left lines.old)) }
+    ensures shelf_count { S.failures devices.new.shelf.now
+        ≤ S.failures devices.old.shelf.now + length (⟦<ListLines<'p> as WorkItems<Item<'p>>>⟧.left lines.old) }
+    ensures loans { loans devices.new ≡ loans devices.old }
+    ensures limits { engine.new.limits ≡ engine.old.limits }
+    ensures range { engine.new.digester.range ≡ engine.old.digester.range }
+{
+    engine.run(devices, lines)
+}
+
+// Says a message, if there was memory for it, and answers what it counts.
+fn say<S: Shelf + Send + Sync, O: Sink, E: Sink>(
+    devices: &mut Devices<'_, '_, '_, S, O, E>,
+    message: Result<Message, AllocError>,
+) -> Result<Tally, RunFault>
+    requires { CanCount (io_state_of S.Shelf O.Sink E.Sink devices.old) 0 }
+    ensures run { (limits : Limits) (report : Report) → IfOk message (λ said. report_of said ≡ report)
+        → Runs limits (Say report Done) (io_state_of S.Shelf O.Sink E.Sink devices.old)
+        (io_state_of S.Shelf O.Sink E.Sink devices.new) result }
+    ensures count { (most : ℕ) (report : Report) → IfOk message (λ said. report_of said ≡ report)
+        → counted report.tally ≤ most → IfOk result (λ tally. counted tally ≤ most) }
+    ensures shelf_count { S.failures devices.new.shelf.now ≡ S.failures devices.old.shelf.now }
+    ensures loans { loans devices.new ≡ loans devices.old }
+{
+    let message = message?;
+    devices.say(&message)?;
+    Ok(message.tally)
 }

@@ -13,6 +13,7 @@ ghost use Rattle.b3_io.specs.Runs.{CanCount, Ran, RanSurely, Runs, Stopped, io_s
 ghost use Rattle.b3_io.specs.Scripts.{nothing};
 ghost use Rattle.b3_io.specs.Sums.{keys_asked, sum_script};
 ghost use Rattle.b3_io.specs.Tallies.{status_of};
+ghost use Rattle.b3_io.specs.Tasks.{tasks_script};
 ghost use Rattle.b3_io.specs.declared.options.Form.TheVariants.{Raw};
 
 use b3_board::Gate;
@@ -21,7 +22,8 @@ use b3_devices::Devices;
 use b3_engine::Engine;
 use b3_hash::derive_mode;
 use b3_io::{
-    KeyChoice, Names, Operands, OutputRange, Pool, RunFault, Shelf, Sink, SumOptions, Tally,
+    Item, KeyChoice, Names, Operands, OutputRange, Pool, RunFault, Shelf, Sink, SumOptions, Tally,
+    WorkItems,
 };
 use std::alloc::Global;
 use std::sync::Wait;
@@ -136,7 +138,27 @@ fn sum_names<R: Threads + Wait + Sync, G: Gate + Sync, S: Shelf + Send + Sync, O
         form: options.form,
         operands,
     };
-    engine.run(devices, &mut work)
+    do_names(&mut engine, devices, &mut work)
+}
+
+// Writes the digest of each name. The call of the engine stands alone, over names that are lent: beside names that are
+// owned its proof is dear.
+fn do_names<'p, R: Threads + Wait + Sync, G: Gate + Sync, S: Shelf + Send + Sync, O: Sink, E: Sink>(
+    engine: &mut Engine<'_, R, G>,
+    devices: &mut Devices<'_, '_, '_, S, O, E>,
+    names: &mut Names<'p>,
+) -> Result<Tally, RunFault>
+    requires few { length (⟦<Names<'p> as WorkItems<Item<'p>>>⟧.left names.old) < 2 ^ 63 }
+    requires countable { CanCount (io_state_of S.Shelf O.Sink E.Sink devices.old)
+        (length (⟦<Names<'p> as WorkItems<Item<'p>>>⟧.left names.old)) }
+    ensures run { Runs engine.old.limits
+        (tasks_script engine.old.digester.range (⟦<Names<'p> as WorkItems<Item<'p>>>⟧.left names.old))
+        (io_state_of S.Shelf O.Sink E.Sink devices.old) (io_state_of S.Shelf O.Sink E.Sink devices.new) result }
+    ensures shelf_count { S.failures devices.new.shelf.now
+        ≤ S.failures devices.old.shelf.now + length (⟦<Names<'p> as WorkItems<Item<'p>>>⟧.left names.old) }
+    ensures loans { loans devices.new ≡ loans devices.old }
+{
+    engine.run(devices, names)
 }
 
 // The mode of a choice of key, which may have to be read.

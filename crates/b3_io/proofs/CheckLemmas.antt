@@ -1,5 +1,5 @@
 -- Runs over lists of check lines.
-use Rattle.std.proofs.Common.{◌≡◌, ◌⊎◌, ℕ, suc, ◌+◌, ◌*◌, ◌^◌, ◌≤◌, List, [], ◌∷◌, ◌++◌, length, map, Option, None, Some, Result, Ok, Err, refl, sym, ◌∙◌, ap, subst, add-one, append_assoc, length-append, arith}
+use Rattle.std.proofs.Common.{◌≡◌, ℕ, suc, ◌+◌, ◌*◌, ◌^◌, ◌≤◌, List, [], ◌∷◌, ◌++◌, length, map, Option, None, Some, Result, Ok, Err, refl, sym, ◌∙◌, ap, add-one, append_assoc, length-append, arith}
 use Rattle.std.proofs.Math.Nat.{mul-le-mul_right, suc-mul}
 use Rattle.std.proofs.lemmas.List.{append-nil, map-append}
 use Rattle.b3_lines.specs.Lines.{line_at}
@@ -7,7 +7,6 @@ use Rattle.b3_lines.specs.Reading.{IsReadAs, first_refusal}
 use Rattle.b3_lines.specs.declared.fault.LineFault.{LineFault}
 use Rattle.b3_lines.proofs.Outcomes.{SaysAs-from_IsReadAs}
 use Rattle.b3_io.specs.declared.fault.RunFault.{RunFault}
-use Rattle.b3_io.specs.declared.fault.RunFault.TheVariants.{WriteFault, Memory}
 use Rattle.b3_io.specs.declared.options.CheckOptions.{CheckOptions}
 use Rattle.b3_io.specs.declared.options.Limits.{Limits}
 use Rattle.b3_io.specs.declared.tally.Tally.{Tally}
@@ -15,14 +14,14 @@ use Rattle.b3_io.specs.Checks.{Entry, decoded, entry_of, line_script, line_scrip
 use Rattle.b3_io.specs.Digests.{line_range}
 use Rattle.b3_io.specs.Operands.{Operand}
 use Rattle.b3_io.specs.Reading.{Answered}
-use Rattle.b3_io.specs.Runs.{Broke, CanCount, IoState, Ran, Runs, Stopped, Went}
-use Rattle.b3_io.specs.Scripts.{Answer, Kind, Report, Script, followed_by, in_turn, then_counted}
-use Rattle.b3_io.specs.Scripts.Script.{Ask, Done, Say}
+use Rattle.b3_io.specs.Runs.{CanCount, IoState, Ran, Runs, Stopped}
+use Rattle.b3_io.specs.Scripts.{Answer, Kind, Script, followed_by, in_turn}
+use Rattle.b3_io.specs.Scripts.Script.{Ask}
 use Rattle.b3_io.specs.Tallies.{no_tally, tally_sum}
 use Rattle.b3_io.specs.Tasks.{counted, line_task, line_tasks, task_script, tasks_script}
 use Rattle.b3_io.specs.Tasks.Task.{Find}
-use Rattle.b3_io.proofs.RunLemmas.{ran_answered, ran_done, ran_said, ran_then, ran_then_counted, ran_then_counted_stopped, ran_then_stopped, stopped_answered, stopped_at_once, stopped_early, stopped_said}
-use Rattle.b3_io.proofs.ScriptLemmas.{in_turn-append, in_turn-more, none-tally_sum}
+use Rattle.b3_io.proofs.RunLemmas.{ran_answered, ran_done, ran_then, ran_then_stopped, stopped_answered, stopped_early}
+use Rattle.b3_io.proofs.ScriptLemmas.{in_turn-append, in_turn-more}
 
 -- ---- lines
 
@@ -173,42 +172,6 @@ lists_all {options} {all} {left} {a} {b} {m} none so_far =
     let same : all ≡ so_far.done =
     so_far.parts ∙ ap (λ xs. so_far.done ++ xs) none ∙ append-nil so_far.done in
     (rw same so_far.ran, rw same so_far.few, rw same so_far.failures)
-
--- ---- what is said after a run, by what was counted in it
-
--- it comes after all
-pub ran_summed : {s : Script} {a b c : IoState} {m n : Tally} (says : Tally → Report) (said : Report) → Ran s a b m
-    → said ≡ says m → Went b c [] said → n ≡ tally_sum m said.tally
-    → Ran (then_counted s no_tally (λ tally. Say (says tally) Done)) a c n
-ran_summed {s} {a} {b} {c} {m} {n} says said ran is went sum =
-    let P : Report → Type 0 = λ q. Went b c [] q in
-    let summed : Ran (Say (says (tally_sum no_tally m)) Done) b c said.tally =
-    subst (λ (t : Tally). Ran (Say (says t) Done) b c said.tally) (sym (none-tally_sum m))
-    (ran_said (says m) (subst P is went) (ap (λ (q : Report). q.tally) is)) in
-    subst (λ (t : Tally). Ran (then_counted s no_tally (λ tally. Say (says tally) Done)) a c t) (sym sum)
-    (ran_then_counted no_tally (λ tally. Say (says tally) Done) ran summed)
-
--- a sink fails in it
-pub stopped_summing : {limits : Limits} {s : Script} {a b c : IoState} {m : Tally} {fault : RunFault}
-    (says : Tally → Report) (said : Report)
-    → Ran s a b m → said ≡ says m
-    → Broke b c [] said fault → (fault ≡ WriteFault) ⊎ (fault ≡ Memory)
-    → Stopped limits (then_counted s no_tally (λ tally. Say (says tally) Done)) a c fault
-stopped_summing {limits} {s} {a} {b} {c} {m} {fault} says said ran is broke known =
-    let P : Report → Type 0 = λ q. Broke b c [] q fault in
-    let stopped : Stopped limits (Say (says (tally_sum no_tally m)) Done) b c fault =
-    subst (λ (t : Tally). Stopped limits (Say (says t) Done) b c fault) (sym (none-tally_sum m))
-    (stopped_said (says m) (subst P is broke) known) in
-    ran_then_counted_stopped no_tally (λ tally. Say (says tally) Done) ran stopped
-
--- there is no memory for it
-pub stopped_unsummed : {limits : Limits} {s : Script} {a b : IoState} {m : Tally} {fault : RunFault}
-    (says : Tally → Report)
-    → Ran s a b m → fault ≡ Memory
-    → Stopped limits (then_counted s no_tally (λ tally. Say (says tally) Done)) a b fault
-stopped_unsummed {limits} {s} {a} {b} {m} {fault} says ran refused =
-    ran_then_counted_stopped no_tally (λ tally. Say (says tally) Done) ran
-    (stopped_at_once (Say (says (tally_sum no_tally m)) Done) b fault refused)
 
 -- ---- the task of a line that is read
 

@@ -30,44 +30,29 @@ returns-clause-run g c =
     let options = c.args.options.now in
     let next = λ (mode : Mode).
     names_script options.form (range_of mode options) (operands_left c.args.operands) in
-    let run = rw (c.in_ok-engine.ensures.range, c.in_ok-engine.ensures.limits, c.limits.ensures) at c.run.ensures.run
-    in
+    let engine = c.in_ok-engine.ensures in
+    let run = rw (engine.range, engine.limits, c.limits.ensures) at c.do_names.ensures.run in
     let names = rw (tasks_script-operands (range_of c.in_ok-mode.mode options) options.form
     (operands_left c.args.operands)) at run in
-    runs_in_mode _ options.key c.in_ok-mode.mode next _ _ _ c.run.result c.in_ok-mode.ensures.found names
+    runs_in_mode _ options.key c.in_ok-mode.mode next _ _ _ c.do_names.result c.in_ok-mode.ensures.found names
 
 pub returns-clause-sure : goal.returns-clause-sure
-returns-clause-sure g c = runs_surely _ _ _ _ c.run.result (returns-clause-run g c)
+returns-clause-sure g c = runs_surely _ _ _ _ c.do_names.result (returns-clause-run g c)
 
 pub returns-in_err-mode-clause-shelf_count : goal.returns-in_err-mode-clause-shelf_count
 returns-in_err-mode-clause-shelf_count g c =
     omega (arith, mode_count c.args.options.now.key _ _ (Err c.in_err-mode.field-0.0) c.in_err-mode.ensures.found)
 
-pub run-requires : goal.run-requires
-run-requires g c = λ _.
+pub do_names-requires-clause-few : goal.do_names-requires-clause-few
+do_names-requires-clause-few g c = λ _ _.
+    let operands = operands_left c.args.operands in
+    subst (λ n. n < 2 ^ 63) (sym (length-map operands _)) (omega (arith, c.requires.operands))
+
+pub do_names-requires-clause-countable : goal.do_names-requires-clause-countable
+do_names-requires-clause-countable g c = λ _ _.
     let operands = operands_left c.args.operands in
     let seen = io_state_of g.S.Shelf g.O.Sink g.E.Sink in
     let found = c.in_ok-mode.ensures.found in
     let countable : CanCount (seen c.find_mode.new.devices) (length operands) =
-    mode_room c.args.options.now.key c.in_ok-mode.mode _ _ (length operands) found c.requires.countable in (
-      c.type_bounds.send-S,
-      (
-        c.type_bounds.sync-R,
-        (
-          c.type_bounds.sync-G,
-          (
-            c.type_bounds.sync-S,
-            (
-              (refl, (refl, tt)),
-              (
-                refl,
-                (
-                  subst (λ n. n < 2 ^ 63) (sym (length-map operands _)) (omega (arith, c.requires.operands)),
-                  subst (λ n. CanCount (seen c.find_mode.new.devices) n) (sym (length-map operands _)) countable,
-                ),
-              ),
-            ),
-          ),
-        ),
-      ),
-    )
+    mode_room c.args.options.now.key c.in_ok-mode.mode _ _ (length operands) found c.requires.countable in
+    subst (λ n. CanCount (seen c.find_mode.new.devices) n) (sym (length-map operands _)) countable
