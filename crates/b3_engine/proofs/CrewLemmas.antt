@@ -1,6 +1,6 @@
 -- Items that are taken one by one, done one by one, and found by whom it may be.
 use Rattle.std.proofs.Common.{◌≡◌, ◌⊎◌, ℕ, ◌+◌, ◌^◌, ◌<◌, ◌≤◌, Bool, true, List, [], ◌∷◌, ◌++◌, length, map, Option, None, Some, Result, Ok, Err, IfNone, IfSome, slice_get, refl, sym, ◌∙◌, ap, subst, append_assoc, length-append, arith}
-use Rattle.std.proofs.lemmas.List.{length-map, map-append}
+use Rattle.std.proofs.lemmas.List.{length-map, map-append, nil_from_length}
 use Rattle.b3_io.specs.declared.fault.RunFault.{RunFault}
 use Rattle.b3_io.specs.declared.fault.RunFault.TheVariants.{WriteFault, Memory}
 use Rattle.b3_io.specs.declared.items.Item.{Item}
@@ -54,6 +54,10 @@ pub at_room : {tasks left : List Task} {number : ℕ} (task : Task) → IsAt tas
     → number < length tasks
 at_room {tasks} {left} {number} task at =
     omega (arith, ap (λ (xs : List Task). length xs) at.parts, length-append at.done (task ∷ left), at.count)
+
+pub at_within : {tasks left : List Task} {number : ℕ} → IsAt tasks left number → number ≤ length tasks
+at_within {tasks} {left} {number} at =
+    omega (arith, ap (λ (xs : List Task). length xs) at.parts, length-append at.done left, at.count)
 
 -- one more item is taken
 pub taken_more : {rest left : List Task} (item : Item) (items : List Item) → left ≡ task_of item ∷ rest
@@ -190,6 +194,27 @@ under_way_taken before same next more = record {
   few = before.few;
   countable = before.countable;
 }
+
+pub come_taken : {range : OutputRange} {tasks rest left : List Task} {start now : IoState} {fits more : Bool}
+    {s t : AheadState} {saying : Saying} {item : Item}
+    → HasCome range tasks start rest fits s now saying item → tasks_ahead t left ≡ tasks_ahead s rest
+    → t.next ≡ s.next → more ≡ true
+    → HasCome range tasks start left more t now saying item
+come_taken came same next more = record {
+  at = rw (same, next) came.at;
+  so_far = rw same came.so_far;
+  fitting = more;
+}
+
+-- no item is left
+pub under_way_over : {range : OutputRange} {tasks left : List Task} {start now : IoState} {fits : Bool} {s : AheadState}
+    {saying : Saying} → IsUnderWay range tasks start left fits s now saying → length s.items ≡ 0
+    → (s.items ≡ [] → left ≡ [])
+    → SoFar range tasks [] start (also_failed saying.uncounted now) saying.lines.items saying.tally
+under_way_over {range} {tasks} {left} {start} {now} {fits} {s} {saying} before empty all =
+    let none : s.items ≡ [] = nil_from_length s.items empty in
+    let over : tasks_ahead s left ≡ [] = rw (none, all none) refl in
+    rw over at before.so_far
 
 -- the run comes to an item
 pub come : {range : OutputRange} {tasks left : List Task} {start now : IoState} {fits : Bool} {s u : AheadState}

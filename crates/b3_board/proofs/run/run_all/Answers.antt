@@ -1,10 +1,51 @@
-use Rattle.std.proofs.Common.{◌≡◌, List, length, sym, subst, ap, ◌∙◌}
+use Rattle.std.proofs.Common.{arith, ◌≡◌, ℕ, ◌+◌, ◌<◌, ◌≤◌, List, length, sum_by, sym, subst, ap, ◌∙◌}
 use Rattle.std.proofs.lemmas.List.{with_items_is}
 use Rattle.std.specs.List.{All}
 use Rattle.std.specs.Vec.{with_items}
 use Rattle.b3_core.specs.declared.spans.Span.{Span}
-use Rattle.b3_board.specs.WorkerStates.{HasEnded}
+use Rattle.b3_board.specs.WorkerStates.{HasEnded, seat_parts, share_parts}
 use Rattle.b3_board.proofs.run.run_all.Goals as goal
+
+-- fewer than there are parts
+fewer : (n workers parts : ℕ) → n ≤ workers → workers ≤ 64 → parts ≡ 128 → n < parts
+fewer n workers parts le few is = omega arith
+
+pub scatter-requires-clause-parts : goal.scatter-requires-clause-parts
+scatter-requires-clause-parts g c = (
+  fewer _ _ _ c.thread_count-threads.ensures.few c.requires.few (ap (λ view. view.parts) c.in_ok-claims.ensures.seat),
+  fewer _ _ _ c.thread_count-threads.ensures.few c.requires.few c.requires.new.0,
+)
+
+pub join_workers-requires-clause-new : goal.join_workers-requires-clause-new
+join_workers-requires-clause-new g c = (
+  c.scatter.ensures.claimed ∙ ap (λ view. view.claimed) c.in_ok-claims.ensures.seat,
+  c.scatter.ensures.chunks ∙ c.requires.new.1,
+)
+
+pub join_workers-requires-clause-some : goal.join_workers-requires-clause-some
+join_workers-requires-clause-some g c =
+    let states = c.in_ok-states.states in
+    let len = c.run_each.ensures.len ∙ ap length c.as_mut_slice.ensures.value ∙ sym states.ok.0 in
+    let count = ap length (with_items_is states c.run_each.new.states len) ∙ len ∙ c.in_ok-states.ensures.len in
+    subst (λ (n : ℕ). (1 ≤ n) × (n ≤ c.args.workers) × (c.args.workers ≤ 64)) (sym count)
+    (c.thread_count-threads.ensures.some, c.thread_count-threads.ensures.few, c.requires.few)
+
+pub join_workers-requires-clause-seat_parts : goal.join_workers-requires-clause-seat_parts
+join_workers-requires-clause-seat_parts g c =
+    let states = c.in_ok-states.states in
+    let len = c.run_each.ensures.len ∙ ap length c.as_mut_slice.ensures.value ∙ sym states.ok.0 in
+    let same = ap (sum_by seat_parts) (with_items_is states c.run_each.new.states len) ∙ c.run_each.ensures.seat_parts
+    ∙ ap (sum_by seat_parts) c.as_mut_slice.ensures.value in
+    ap (λ n. c.scatter.new.seat.view.parts + n) same ∙ c.in_ok-states.ensures.seat_parts
+    ∙ ap (λ view. view.parts) c.in_ok-claims.ensures.seat
+
+pub join_workers-requires-clause-share_parts : goal.join_workers-requires-clause-share_parts
+join_workers-requires-clause-share_parts g c =
+    let states = c.in_ok-states.states in
+    let len = c.run_each.ensures.len ∙ ap length c.as_mut_slice.ensures.value ∙ sym states.ok.0 in
+    let same = ap (sum_by share_parts) (with_items_is states c.run_each.new.states len) ∙ c.run_each.ensures.share_parts
+    ∙ ap (sum_by share_parts) c.as_mut_slice.ensures.value in
+    ap (λ n. c.scatter.new.share.parts + n) same ∙ c.in_ok-states.ensures.share_parts ∙ c.requires.new.0
 
 pub join_workers-requires-clause-each : goal.join_workers-requires-clause-each
 join_workers-requires-clause-each g c =

@@ -1,9 +1,9 @@
-use Rattle.std.proofs.Common.{refl, arith}
+use Rattle.std.proofs.Common.{length, ap, refl, arith}
 use Rattle.std.proofs.lemmas.Result.{err_from_is_err_and}
 use Rattle.std.specs.Arc.{arc_value}
 use Rattle.b3_engine.specs.Crews.{IsMessageFor}
 use Rattle.b3_io.specs.Runs.{io_state}
-use Rattle.b3_engine.proofs.CrewLemmas.{come, found_for_item, has_stopped, under_way_said}
+use Rattle.b3_engine.proofs.CrewLemmas.{at_within, come, come_counts, come_failures, found_for_item, has_stopped, under_way_said}
 use Rattle.b3_engine.proofs.crew_run.say_known.Goals as goal
 
 pub returns-in_default-said-clause-said : goal.returns-in_default-said-clause-said
@@ -38,3 +38,32 @@ items-preserved g c =
           c.count.ensures.uncounted;
       further = omega (arith, c.items.invariant.further, c.in-Some.ensures.number);
     }
+
+pub items-init : goal.items-init
+items-init g c = record { before = c.requires.before; further = omega arith }
+
+pub pop-requires : goal.pop-requires
+pop-requires g c = omega (arith, at_within c.items.invariant.before.at, c.items.invariant.before.few)
+
+pub returns-in_default-clause-said : goal.returns-in_default-clause-said
+returns-in_default-clause-said g c = rw c.in_default.ensures.same c.items.invariant.before
+
+pub overflow_add-saying : goal.overflow_add-saying
+overflow_add-saying g c =
+    let item = (arc_value c.in-Some.entry).1 in
+    let before = c.items.invariant.before in
+    let came = come item before c.in-Some.ensures.some c.in-Some.ensures.number in
+    omega (arith, come_failures item c.in-Some-said.failures came before.countable c.in-Some-said.ensures.one)
+
+pub count-requires : goal.count-requires
+count-requires g c =
+    let item = (arc_value c.in-Some.entry).1 in
+    let before = c.items.invariant.before in
+    let came = come item before c.in-Some.ensures.some c.in-Some.ensures.number in
+    come_counts item c.in-Some-said.message.now.tally came before.few c.in-Some-said.ensures.twice
+
+pub items-smaller : goal.items-smaller
+items-smaller g c = omega (arith, ap length c.in-Some.ensures.some)
+
+pub returns-clause-said : goal.returns-clause-said
+returns-clause-said g c = c.items.invariant.before

@@ -51,3 +51,22 @@ returns-in_ok-message-in-Ask-clause-stopped g c =
     let found = rw (← c.requires.range) at c.in_ok-message-in-Ask.ensures.finds in
     let said = c.say-in-Ask in
     rw is (so_far_unsaid _ _ _ _ _ _ _ _ (task_of (AskItem c.in-Ask.request)) said.result found said.ensures.said)
+
+pub returns-in_err-message-in-Ask-clause-shelf_count : goal.returns-in_err-message-in-Ask-clause-shelf_count
+returns-in_err-message-in-Ask-clause-shelf_count g c = c.in_err-message-in-Ask.ensures.shelf_count
+
+pub returns-in-Say-clause-shelf_count : goal.returns-in-Say-clause-shelf_count
+returns-in-Say-clause-shelf_count g c = omega (arith, c.say.ensures.shelf_count)
+
+pub returns-in_ok-message-in-Ask-clause-shelf_count : goal.returns-in_ok-message-in-Ask-clause-shelf_count
+returns-in_ok-message-in-Ask-clause-shelf_count g c =
+    omega (arith, c.in_ok-message-in-Ask.ensures.shelf_count, c.say-in-Ask.ensures.shelf_count)
+
+pub returns-in_err-message-in-Ask-clause-loans : goal.returns-in_err-message-in-Ask-clause-loans
+returns-in_err-message-in-Ask-clause-loans g c = c.in_err-message-in-Ask.ensures.loans
+
+pub returns-in-Say-clause-loans : goal.returns-in-Say-clause-loans
+returns-in-Say-clause-loans g c = c.say.ensures.loans
+
+pub returns-in_ok-message-in-Ask-clause-loans : goal.returns-in_ok-message-in-Ask-clause-loans
+returns-in_ok-message-in-Ask-clause-loans g c = c.say-in-Ask.ensures.loans ∙ c.in_ok-message-in-Ask.ensures.loans

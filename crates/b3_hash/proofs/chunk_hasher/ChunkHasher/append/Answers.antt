@@ -45,3 +45,62 @@ returns-clause-ends_with c = λ before held.
     let joined = append_assoc before front rest ∙ ap (λ bytes. before ++ bytes) whole in
     subst (EndsWith c.append_chunks-2.new.self c.append_chunks-2.result) joined
     (c.append_chunks-2.ensures.ends_with (before ++ front) closed (λ _. some))
+
+pub extend_chunk-requires-clause-room : goal.extend_chunk-requires-clause-room
+extend_chunk-requires-clause-room c =
+    let state = chunk_state_len-chunk_state_of c.self.inside.last in
+    let same = ap (λ (s : ChunkHasherState). chunk_state_len s.chunk_state) c.self.view_is in
+    omega (arith, state, same, c.len-filled.ensures, c.min.ensures, c.split_at.ensures.front_len)
+
+pub returns-then-is_empty-clause-len : goal.returns-then-is_empty-clause-len
+returns-then-is_empty-clause-len c =
+    let none : length c.split_at.result.1.now ≡ 0 = eqb-true _ 0 (sym c.is_empty.ensures ∙ c.if-is_empty.true) in
+    omega (
+      arith,
+      none,
+      c.min.ensures,
+      c.split_at.ensures.front_len,
+      c.split_at.ensures.back_len,
+      c.extend_chunk.ensures.len,
+    )
+
+pub close_chunk-requires : goal.close_chunk-requires
+close_chunk-requires c =
+    let not_empty = eqb-false (length c.split_at.result.1.now) 0 (sym c.is_empty.ensures ∙ c.if-is_empty.false) in
+    let state = chunk_state_len-chunk_state_of c.self.inside.last in
+    let same = ap (λ (s : ChunkHasherState). chunk_state_len s.chunk_state) c.self.view_is in
+    omega (
+      arith,
+      not_empty,
+      state,
+      same,
+      c.len-filled.ensures,
+      c.min.ensures,
+      c.split_at.ensures.front_len,
+      c.split_at.ensures.back_len,
+      c.extend_chunk.ensures.chunk_state,
+    )
+
+pub append_chunks-requires-2-clause-fits : goal.append_chunks-requires-2-clause-fits
+append_chunks-requires-2-clause-fits c =
+    omega (
+      arith,
+      c.requires,
+      c.min.ensures,
+      c.split_at.ensures.front_len,
+      c.split_at.ensures.back_len,
+      c.extend_chunk.ensures.len,
+      c.close_chunk.ensures.len,
+    )
+
+pub returns-clause-len : goal.returns-clause-len
+returns-clause-len c =
+    omega (
+      arith,
+      c.append_chunks-2.ensures.len,
+      c.min.ensures,
+      c.split_at.ensures.front_len,
+      c.split_at.ensures.back_len,
+      c.extend_chunk.ensures.len,
+      c.close_chunk.ensures.len,
+    )

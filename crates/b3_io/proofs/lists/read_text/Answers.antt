@@ -1,0 +1,26 @@
+use Rattle.std.proofs.Common.{◌⊎◌, ◌<◌, ◌≤◌, ◌∙◌, Result, Ok, Err, IsSome, length, sym, subst, inl}
+use Rattle.std.specs.Prelude.{IfErr, IsErrAnd}
+use Rattle.b3_io.specs.declared.fault.RunFault.{RunFault}
+use Rattle.b3_io.specs.Reading.{IsFaultOfRest}
+use Rattle.b3_io.specs.Scripts.Kind.{Listed}
+use Rattle.b3_io.proofs.ReadLemmas.{read_endless, rest_where}
+use Rattle.b3_io.proofs.lists.read_text.Goals as goal
+
+-- what holds of the fault that is handed on
+fault_has : {T E : Type 0} (r : Result T E) (Q P : E → Type 0) → IsErrAnd r Q → ((e : E) → Q e → P e)
+    → IfErr r P
+fault_has (Ok x) Q P is then = tt
+fault_has (Err e) Q P is then = then e is
+
+pub returns-in_err-count-clause-fault : goal.returns-in_err-count-clause-fault
+returns-in_err-count-clause-fault g c =
+    let limits = c.args.limits in
+    let told = g.S.Shelf.told c.args.shelf.now in
+    let left = g.S.Shelf.left c.args.shelf.now in
+    let held = c.fills.invariant in
+    let endless = read_endless held.read (λ is. c.in_err-count.ensures.endless (subst IsSome (sym held.told) is)) in
+    fault_has c.from_residual.result _ (λ fault. IsFaultOfRest fault told limits Listed left) c.from_residual.ensures.1
+    (λ fault is. subst (λ (fault : RunFault). IsFaultOfRest fault told limits Listed left)
+    (sym (is ∙ c.in_err-count.ensures.fault))
+    (rest_where told left (λ content. (limits.turns ≤ length content) ⊎ (limits.largest < length content))
+    (λ is. inl (endless is))))
