@@ -30,7 +30,9 @@ PIECE = 1 << 18
 # than a piece all workers read pieces: two, three and more of them.
 WAYS = (1 << 16, PIECE, 2 * PIECE, 3 * PIECE, 4 * PIECE, 1 << 22)
 # The length of files that change during a run: a single one is read by all workers, each of many by one worker.
-CHANGING = 10 * PIECE
+CHANGING = 12 * PIECE
+# The most bytes of a page in the system's cache. A read of one meanwhile cut in two may give zeros that the file never had.
+LARGEST_PAGE = 1 << 21
 # A plain file that reports 4,096 bytes and has fewer.
 SHORTER = "/sys/devices/system/cpu/possible"
 
@@ -199,7 +201,7 @@ def replaced_files(faults, contents, trees):
 
 
 def cut_files(faults, content, tree):
-    page, left = 4096, 1 << 20
+    page, left = 4096, LARGEST_PAGE
     digests = [tree.digest(length) for length in range(left, CHANGING + 1, page)]
     for turn, (times, pause) in product(range(1, 21), ((1, 0.0002), (20, 0.0008))):
         Path("cut").write_bytes(content)
