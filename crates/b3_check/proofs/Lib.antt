@@ -6,3 +6,5 @@ pub mod VerifiedLemmas
 pub mod LawLemmas
 -- What is said after a run, by what was counted in it, as a run of its own.
 pub mod Ends
+-- The tasks of a sum.
+pub mod SumTasks

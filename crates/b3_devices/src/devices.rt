@@ -5,13 +5,14 @@ ghost use Rattle.b3_io.specs.Contents.{input_name};
 ghost use Rattle.b3_io.specs.Owing.{SaysOwing, on_out};
 ghost use Rattle.b3_io.specs.Reading.{Answered, Asks, Hashes, key_answer};
 ghost use Rattle.b3_io.specs.Scripts.Kind.{Key, Listed};
-ghost use Rattle.b3_io.specs.Runs.{CanCount, io_state};
+ghost use Rattle.b3_io.specs.Runs.{CanCount};
 ghost use Rattle.b3_io.specs.Tasks.{Says, report_of};
 
 use crate::digester::Digester;
 use b3_board::Gate;
 use b3_io::{
-    KeyRead, Limits, ListReader, Message, NoContent, Pool, RunFault, Shelf, Sink, write_all,
+    KeyRead, Limits, ListReader, Message, NoContent, Pool, RunFault, Shelf, Sink, say_after,
+    write_all,
 };
 use std::sync::Wait;
 use std::thread::Threads;
@@ -135,27 +136,4 @@ impl<'s, 'o, 'e, S: Shelf + Send + Sync, O: Sink, E: Sink> Devices<'s, 'o, 'e, S
         write_all(self.out, lines)?;
         Ok(())
     }
-}
-
-/// As `Devices::say_after`, while others may look at the shelf.
-pub fn say_after<S: Shelf, O: Sink, E: Sink>(
-    _shelf: &S,
-    out: &mut O,
-    err: &mut E,
-    lines: &mut Vec<u8>,
-    message: &Message,
-    is_more_soon: bool,
-) -> Result<(), RunFault>
-    requires { CanCount (io_state S.Shelf O.Sink E.Sink _shelf.now out.old err.old) 0 }
-    ensures { SaysOwing (report_of message.now) (io_state S.Shelf O.Sink E.Sink _shelf.now out.old err.old)
-        (io_state S.Shelf O.Sink E.Sink _shelf.now out.new err.new) lines.old.items lines.new.items result }
-{
-    lines.extend_from_slice(message.out.as_slice())?;
-    if is_more_soon && message.err.is_empty() && out.may_wait() {
-        return Ok(());
-    }
-    write_all(out, lines.as_slice())?;
-    lines.clear();
-    write_all(err, message.err.as_slice())?;
-    Ok(())
 }

@@ -6,5 +6,5 @@ mod at_offsets;
 mod devices;
 mod digester;
 
-pub use devices::{Devices, say_after};
+pub use devices::Devices;
 pub use digester::Digester;

@@ -3,7 +3,7 @@
 ghost use Rattle.std.specs.Prelude.{◌≡◌, ℕ, ◌+◌, ◌*◌, ◌-◌, ◌^◌, ◌<◌, ◌≤◌, ◌∷◌, List, true, length, vec_len, IfErr, IfOk, IfSome, OnOk};
 ghost use Rattle.std.specs.Arc.{arc_value};
 ghost use Rattle.b3_devices.specs.Devices.{loans, io_state_of};
-ghost use Rattle.b3_engine.specs.Crews.{IsLed, IsUnderWay, SoFar};
+ghost use Rattle.b3_crew.specs.Crews.{IsLed, IsUnderWay, SoFar};
 ghost use Rattle.b3_io.specs.Owing.{SaysOwing};
 ghost use Rattle.b3_io.specs.Runs.{CanCount, Runs, Stopped};
 ghost use Rattle.b3_io.specs.declared.items.Item.{Item};
@@ -11,13 +11,10 @@ ghost use Rattle.b3_io.specs.Tallies.{tally_sum};
 ghost use Rattle.b3_io.specs.Tasks.{Task, counted, Finds, IsFit, name_asked, report_of, request_report, task_of, task_script, tasks_script};
 ghost use Rattle.b3_io.specs.Tasks.Task.{Find};
 
-use crate::ahead::{Ahead, Front};
-use crate::crew::{Crew, Shown};
-use crate::crew_run::{Site, run_crew};
-use crate::entry::Entry;
-use crate::name_hasher::{NameHasher, name_hashers};
-use crate::run_input::RunInput;
 use b3_board::Gate;
+use b3_crew::{
+    Ahead, Crew, Entry, Front, NameHasher, RunInput, Shown, Site, name_hashers, run_crew,
+};
 use b3_devices::{Devices, Digester};
 use b3_io::{
     AnyItem, Item, Limits, Message, OutputRange, Pool, READ_LEN, Request, RunFault, Saying, Shelf,

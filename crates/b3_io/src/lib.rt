@@ -40,7 +40,7 @@ pub use operands::{Operand, Operands};
 pub use options::{CheckOptions, Form, KeyChoice, Limits, MAX_OUTPUT_LEN, SumOptions};
 pub use output_range::OutputRange;
 pub use pool::Pool;
-pub use saying::Saying;
+pub use saying::{Saying, say_after};
 pub use shelf::{CannotRead, INPUT_NAME, NoContent, Shelf};
 pub use sink::{Sink, SinkFailed};
 pub use tally::Tally;

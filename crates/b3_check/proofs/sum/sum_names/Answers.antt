@@ -8,7 +8,7 @@ use Rattle.b3_io.specs.Digests.{range_of}
 use Rattle.b3_io.specs.Operands.{operands_left}
 use Rattle.b3_io.specs.Sums.{names_script}
 use Rattle.b3_io.proofs.RunLemmas.{mode_count, mode_room, runs_in_mode, runs_surely, stopped_at_once, stopped_in_mode}
-use Rattle.b3_engine.proofs.TaskLemmas.{tasks_script-operands}
+use Rattle.b3_check.proofs.SumTasks.{tasks_script-operands}
 use Rattle.b3_check.proofs.sum.sum_names.Goals as goal
 
 pub returns-in_err-mode-clause-run : goal.returns-in_err-mode-clause-run

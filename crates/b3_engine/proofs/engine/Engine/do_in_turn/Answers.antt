@@ -4,9 +4,9 @@ use Rattle.b3_devices.specs.Devices.{io_state_of}
 use Rattle.b3_io.specs.Runs.{sink_state}
 use Rattle.b3_io.specs.Tasks.{IsFitItem, task_of}
 use Rattle.b3_io.specs.declared.items.Item.TheVariants.{Say as SayItem, Ask as AskItem}
-use Rattle.b3_engine.proofs.CrewLemmas.{found_said}
-use Rattle.b3_engine.proofs.OwingLemmas.{stopped_owing}
-use Rattle.b3_engine.proofs.TaskLemmas.{so_far_said, so_far_stopped, so_far_unsaid}
+use Rattle.b3_crew.proofs.CrewLemmas.{found_said}
+use Rattle.b3_crew.proofs.OwingLemmas.{stopped_owing}
+use Rattle.b3_crew.proofs.TaskLemmas.{so_far_said, so_far_stopped, so_far_unsaid}
 use Rattle.b3_engine.proofs.engine.Engine.do_in_turn.Goals as goal
 
 pub returns-in-Say-clause-so_far : goal.returns-in-Say-clause-so_far

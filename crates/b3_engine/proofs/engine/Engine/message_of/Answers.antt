@@ -1,6 +1,6 @@
 use Rattle.std.proofs.lemmas.Result.{err_from_is_err_and}
 use Rattle.b3_io.specs.Tasks.{request_report}
-use Rattle.b3_engine.proofs.TaskLemmas.{stopped_unsaid}
+use Rattle.b3_crew.proofs.TaskLemmas.{stopped_unsaid}
 use Rattle.b3_engine.proofs.engine.Engine.message_of.Goals as goal
 
 pub returns-in_err-message-clause-finds : goal.returns-in_err-message-clause-finds

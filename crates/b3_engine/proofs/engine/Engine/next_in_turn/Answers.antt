@@ -3,7 +3,7 @@ use Rattle.std.proofs.lemmas.Result.{err_from_is_err_and}
 use Rattle.std.specs.Arc.{arc_value}
 use Rattle.b3_devices.specs.Devices.{io_state_of}
 use Rattle.b3_io.specs.declared.items.Item.{Item}
-use Rattle.b3_engine.proofs.CrewLemmas.{counted_state, has_refused, led_counted, led_fits, led_popped, under_way_taken}
+use Rattle.b3_crew.proofs.CrewLemmas.{counted_state, has_refused, led_counted, led_fits, led_popped, under_way_taken}
 use Rattle.b3_engine.proofs.engine.Engine.next_in_turn.Goals as goal
 
 pub returns-in_err-take_items-clause-led : goal.returns-in_err-take_items-clause-led

@@ -1,9 +1,9 @@
 use Rattle.std.proofs.Common.{◌≡◌, [], arith, refl, rules, sym, ◌∙◌}
 use Rattle.std.proofs.lemmas.Result.{err_from_is_err_and}
 use Rattle.std.specs.Arc.{arc_value}
-use Rattle.b3_engine.specs.Crews.{tasks_ahead}
-use Rattle.b3_engine.proofs.CrewLemmas.{at_within, so_far_counted, so_far_uncounted, stopped_counted}
-use Rattle.b3_engine.proofs.TaskLemmas.{so_far_all, so_far_least, so_far_least_next, so_far_none, so_far_unwritten}
+use Rattle.b3_crew.specs.Crews.{tasks_ahead}
+use Rattle.b3_crew.proofs.CrewLemmas.{at_within, so_far_counted, so_far_uncounted, stopped_counted}
+use Rattle.b3_crew.proofs.TaskLemmas.{so_far_all, so_far_least, so_far_least_next, so_far_none, so_far_unwritten}
 use Rattle.b3_engine.proofs.engine.Engine.run_as.Goals as goal
 
 pub turns-init : goal.turns-init

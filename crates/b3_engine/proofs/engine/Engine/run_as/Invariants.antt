@@ -1,5 +1,5 @@
 use Rattle.std.proofs.Common.{◌≡◌, ◌-◌, length}
-use Rattle.b3_engine.specs.Crews.{IsUnderWay}
+use Rattle.b3_crew.specs.Crews.{IsUnderWay}
 use Rattle.b3_devices.specs.Devices.{io_state_of, loans}
 use Rattle.b3_engine.proofs.engine.Engine.run_as.Given as goal
 
