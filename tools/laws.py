@@ -16,9 +16,9 @@ TO_LIST = (*TO_TASK, ("b3_call/src/lists.rt", "run_in_list"), ("b3_call/src/list
 TO_SUM = (*TO_RUN, ("b3_check/src/sum.rt", "run_sum"))
 TO_CHECK = (*TO_RUN, ("b3_check/src/check.rt", "run_check"))
 TO_TEXT = (*TO_SUM, ("b3_check/src/sum.rt", "sum_names"), ("b3_check/src/sum.rt", "do_names"),
-           ("b3_engine/src/engine.rt", "Engine::run"), ("b3_engine/src/engine.rt", "Engine::run_items"),
-           ("b3_engine/src/engine.rt", "Engine::run_as"), ("b3_engine/src/engine.rt", "Engine::do_in_turn"),
-           ("b3_engine/src/engine.rt", "Engine::message_of"), ("b3_io/src/items.rt", "Request::message"),
+           ("b3_check/src/engine.rt", "Engine::run"), ("b3_check/src/engine.rt", "Engine::run_items"),
+           ("b3_check/src/engine.rt", "Engine::run_as"), ("b3_check/src/engine.rt", "Engine::do_in_turn"),
+           ("b3_check/src/engine.rt", "Engine::message_of"), ("b3_io/src/items.rt", "Request::message"),
            ("b3_io/src/message.rt", "Message::of_name"), ("b3_io/src/message.rt", "digest_text"))
 TO_PLAIN = (*TO_TEXT, ("b3_io/src/message.rt", "plain_line"), ("b3_lines/src/writing.rt", "write_line"))
 TO_TAGGED = (*TO_TEXT, ("b3_io/src/message.rt", "tagged_line"), ("b3_lines/src/tagging.rt", "write_tagged"))
@@ -88,14 +88,14 @@ LAWS = (
         "wrapped for progress or not.",
         (Ghosts("b3_files/src/files.rt", "Shelf for FileShelf", ("told", "is_sure")),
          Clauses("b3_files/src/files.rt", "FileShelf::new", ("disk", "input")),
-         Ghosts("b3_program/src/counting_shelf.rt", "Shelf for CountingShelf", ("told", "is_sure")),
-         Clauses("b3_program/src/counting_shelf.rt", "CountingShelf::new"),
+         Ghosts("b3_progress/src/counting_shelf.rt", "Shelf for CountingShelf", ("told", "is_sure")),
+         Clauses("b3_progress/src/counting_shelf.rt", "CountingShelf::new"),
          Ghosts("b3_files/src/outputs.rt", "Sink for OutputSink", ("held",)),
          Clauses("b3_files/src/outputs.rt", "OutputSink::new", ("writer",)),
          Clauses("b3_files/src/outputs.rt", "OutputSink::into_writer"),
-         Ghosts("b3_program/src/clearing_sink.rt", "Sink for ClearingSink", ("held",)),
-         Clauses("b3_program/src/clearing_sink.rt", "ClearingSink::new"),
-         Clauses("b3_program/src/clearing_sink.rt", "ClearingSink::into_inner")), (TO_SHELF, TO_OUTPUT)),
+         Ghosts("b3_progress/src/clearing_sink.rt", "Sink for ClearingSink", ("held",)),
+         Clauses("b3_progress/src/clearing_sink.rt", "ClearingSink::new"),
+         Clauses("b3_progress/src/clearing_sink.rt", "ClearingSink::into_inner")), (TO_SHELF, TO_OUTPUT)),
     Law("Sums",
         "Over files that are known and do not fail, the line of each is written in order, and no more.",
         (Clauses("b3_check/src/sum.rt", "run_sum", ("sums",)),), (TO_SUM,)),

@@ -22,10 +22,10 @@ ghost use Rattle.b3_io.specs.Tasks.{counted, report_of, tasks_script};
 ghost use Rattle.b3_io.specs.declared.options.Form.{Form};
 ghost use Rattle.b3_io.specs.declared.options.Limits.{Limits};
 
+use crate::engine::Engine;
 use b3_board::Gate;
 use b3_core::Mode;
 use b3_devices::Devices;
-use b3_engine::Engine;
 use b3_io::{
     CheckOptions, Item, ListLines, ListReader, Message, Operand, Operands, OutputRange, Pool,
     RunFault, Shelf, Sink, Tally, WorkItems,

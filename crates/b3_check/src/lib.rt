@@ -3,6 +3,7 @@
 #![tactic(auto)]
 
 mod check;
+mod engine;
 mod sum;
 
 pub use b3_board::MAX_WORKERS;
@@ -12,4 +13,5 @@ pub use b3_io::{
     SinkFailed, SumOptions, Tally, Verdict, complaint, judge, prefixed, write_all,
 };
 pub use check::run_check;
+pub use engine::Engine;
 pub use sum::run_sum;

@@ -16,10 +16,10 @@ ghost use Rattle.b3_io.specs.Tallies.{status_of};
 ghost use Rattle.b3_io.specs.Tasks.{tasks_script};
 ghost use Rattle.b3_io.specs.declared.options.Form.TheVariants.{Raw};
 
+use crate::engine::Engine;
 use b3_board::Gate;
 use b3_core::Mode;
 use b3_devices::Devices;
-use b3_engine::Engine;
 use b3_hash::derive_mode;
 use b3_io::{
     Item, KeyChoice, Names, Operands, OutputRange, Pool, RunFault, Shelf, Sink, SumOptions, Tally,

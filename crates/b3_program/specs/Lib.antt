@@ -3,4 +3,3 @@ pub mod Tasks
 pub mod Said
 pub mod Stops
 pub mod Lists
-pub mod Columns

@@ -7,7 +7,7 @@ use b3_board::OpenGate;
 use b3_call::run_call;
 use b3_check::{MemoryShelf, MemorySink, Shelf, Sink};
 use b3_files::{FileShelf, MemoryFile, OutputSink, RealDisk};
-use b3_program::Progress;
+use b3_progress::Progress;
 use std::alloc::{AllocError, Global};
 use std::io;
 use std::process::Abort;

@@ -7,7 +7,7 @@ use super::calls::arguments;
 use b3_board::OpenGate;
 use b3_call::run_call;
 use b3_check::{MemoryShelf, MemorySink};
-use b3_program::{CountingShelf, Progress};
+use b3_progress::{CountingShelf, Progress};
 use std::alloc::AllocError;
 use std::io::{self, Write};
 use std::rt::Clock;

@@ -1,7 +1,0 @@
-use Rattle.std.proofs.Common.{ap, arith}
-use Rattle.b3_program.specs.Columns.{columns_of}
-use Rattle.b3_program.proofs.Widths.{columns_of-none}
-use Rattle.b3_program.proofs.progress_text.first_columns.Goals as goal
-
-pub loop-character-init : goal.loop-character-init
-loop-character-init c = omega (arith, ap columns_of c.new-front.ensures.bytes, columns_of-none)

@@ -1,7 +1,0 @@
-use Rattle.std.proofs.Common.{◌≤◌, string_bytes}
-use Rattle.b3_program.specs.Columns.{columns_of}
-use Rattle.b3_program.proofs.progress_text.first_columns.Given as goal
-
--- what there is so far fits
-abbrev pub invariant-loop-character : goal.invariant-loop-character
-invariant-loop-character l = columns_of (string_bytes l.front) ≤ 79

@@ -1,0 +1,7 @@
+use Rattle.std.proofs.Common.{ap, arith}
+use Rattle.b3_progress.specs.Columns.{columns_of}
+use Rattle.b3_progress.proofs.Widths.{columns_of-none}
+use Rattle.b3_progress.proofs.progress_text.first_columns.Goals as goal
+
+pub loop-character-init : goal.loop-character-init
+loop-character-init c = omega (arith, ap columns_of c.new-front.ensures.bytes, columns_of-none)
