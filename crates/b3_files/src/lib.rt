@@ -1,6 +1,9 @@
-//! What a run reads and writes outside memory: a shelf of the files of a disk and of standard input, and sinks over writers.
+//! What a run reads and writes outside memory: a shelf of the files of a disk and of standard input, and sinks over writers;
+//! and a shelf and a sink round any other, for the line of progress.
 #![tactic(auto)]
 
+mod clearing_sink;
+mod counting_shelf;
 mod disk;
 mod files;
 mod input;
@@ -11,6 +14,8 @@ mod real_disk;
 mod retrying;
 mod source;
 
+pub use clearing_sink::ClearingSink;
+pub use counting_shelf::CountingShelf;
 pub use disk::{Disk, DiskFile, FileKind, Input, Stream};
 pub use files::FileShelf;
 pub use memory_disk::{MemoryDisk, MemoryFile, NamedFile};

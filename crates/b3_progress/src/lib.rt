@@ -1,12 +1,8 @@
-//! The line of progress: a shelf that counts what is read, and a sink that takes the line away before it writes.
+//! The line of progress: what was done of a run, counted by any thread, and the terminal on which a line says so.
 #![tactic(auto)]
 
-mod clearing_sink;
-mod counting_shelf;
 mod progress;
 mod progress_text;
 
-pub use clearing_sink::ClearingSink;
-pub use counting_shelf::CountingShelf;
-pub use progress::Progress;
+pub use progress::{Progress, Terminal};
 pub use progress_text::{Counts, progress_line};

@@ -16,7 +16,7 @@ const ERASE_LINE: &str = "\r\x1b[K";
 
 /// A terminal, on which one line may stand that is to go away.
 #[derive(Drop)]
-pub(crate) struct Terminal<W> {
+pub struct Terminal<W> {
     writer: W,
     has_line: bool,
     // whether what an output wrote last is the beginning of a line
@@ -38,7 +38,7 @@ impl<W: Write> Terminal<W> {
     }
 
     /// An output wrote these bytes. A line stands only before or behind whole lines of an output.
-    pub(crate) fn note_output(&mut self, bytes: &[u8]) {
+    pub fn note_output(&mut self, bytes: &[u8]) {
         if let Some(last) = bytes.last() {
             self.is_in_output = *last != b'\n';
         }
@@ -111,12 +111,12 @@ impl<C: Clock, W: Write> Progress<C, W> {
     }
 
     /// Whether lines are shown, so that there is something to count for.
-    pub(crate) fn is_shown(&self) -> bool {
+    pub fn is_shown(&self) -> bool {
         self.is_shown.load(Ordering::SeqCst)
     }
 
     /// Counts anew: so many names are to be done.
-    pub(crate) fn expect_names(&self, count: u64) {
+    pub fn expect_names(&self, count: u64) {
         self.since
             .store(self.millis().unwrap_or(0), Ordering::SeqCst);
         self.all_names.store(count, Ordering::SeqCst);
@@ -129,47 +129,47 @@ impl<C: Clock, W: Write> Progress<C, W> {
     }
 
     /// Counts a name that is begun in its turn, and answers how many bytes were read of those before it.
-    pub(crate) fn begin_name(&self) -> u64 {
+    pub fn begin_name(&self) -> u64 {
         self.begun_names.fetch_add(1, Ordering::SeqCst);
         self.begun_bytes()
     }
 
     /// How many bytes were read of names in their turn.
-    pub(crate) fn begun_bytes(&self) -> u64 {
+    pub fn begun_bytes(&self) -> u64 {
         self.begun_bytes.load(Ordering::SeqCst)
     }
 
     /// Counts bytes of the name that was begun last.
-    pub(crate) fn add_bytes(&self, count: u64) {
+    pub fn add_bytes(&self, count: u64) {
         self.begun_bytes.fetch_add(count, Ordering::SeqCst);
     }
 
     /// Counts a name that is done before its turn, and answers how many there were before it.
-    pub(crate) fn add_whole(&self, len: u64) -> u64 {
+    pub fn add_whole(&self, len: u64) -> u64 {
         self.whole_bytes.fetch_add(len, Ordering::SeqCst);
         self.whole_names.fetch_add(1, Ordering::SeqCst)
     }
 
     /// Counts a name that waits for its turn, and the length that it tells.
-    pub(crate) fn add_waiting(&self, len: u64) {
+    pub fn add_waiting(&self, len: u64) {
         self.waiting_names.fetch_add(1, Ordering::SeqCst);
         self.waiting_bytes.fetch_add(len, Ordering::SeqCst);
     }
 
     /// Whether names wait for their turn.
-    pub(crate) fn has_waiting(&self) -> bool {
+    pub fn has_waiting(&self) -> bool {
         self.waiting_names.load(Ordering::SeqCst) > 0
     }
 
     /// The turn of the first name that waits has come, which tells this length by now. Other names may come to wait
     /// meanwhile.
-    pub(crate) fn end_wait(&self, len: u64) {
+    pub fn end_wait(&self, len: u64) {
         subtract(&self.waiting_names, 1);
         subtract(&self.waiting_bytes, len);
     }
 
     /// Whether it is time for a line.
-    pub(crate) fn is_due(&self) -> bool {
+    pub fn is_due(&self) -> bool {
         match self.millis() {
             Some(now) => self.due.load(Ordering::SeqCst) <= now,
             None => false,
@@ -178,7 +178,7 @@ impl<C: Clock, W: Write> Progress<C, W> {
 
     /// Shows a line with this name, if it is time for one, no other thread writes, and no line of an output is begun. So
     /// many bytes are left of the name in hand; none where it is done.
-    pub(crate) fn show(&self, name: &str, left: Option<u64>) {
+    pub fn show(&self, name: &str, left: Option<u64>) {
         let Some(now) = self.millis() else {
             return;
         };
@@ -205,7 +205,7 @@ impl<C: Clock, W: Write> Progress<C, W> {
 
     /// The terminal without a line, for an output to write to it: none is shown until this is dropped. Where no lines are
     /// shown it is none, and costs no lock.
-    pub(crate) fn cleared<R: Wait>(&self, rt: &R) -> Option<MutexGuard<'_, Terminal<W>>> {
+    pub fn cleared<R: Wait>(&self, rt: &R) -> Option<MutexGuard<'_, Terminal<W>>> {
         if !self.is_shown() {
             return None;
         }

@@ -6,8 +6,10 @@ use super::asserts::assert_same;
 use super::files::FOUR;
 use super::steps::{Asked, Step};
 use b3_check::{MemoryShelf, NoContent, Shelf, Sink};
-use b3_files::{FileShelf, MemoryDisk, MemoryFile, NamedFile, OutputSink};
-use b3_progress::{ClearingSink, CountingShelf, Counts, Progress, progress_line};
+use b3_files::{
+    ClearingSink, CountingShelf, FileShelf, MemoryDisk, MemoryFile, NamedFile, OutputSink,
+};
+use b3_progress::{Counts, Progress, progress_line};
 use std::alloc::Global;
 use std::cell::{Cell, RefCell};
 use std::io::{self, ErrorKind, Write};

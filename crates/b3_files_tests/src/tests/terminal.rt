@@ -4,8 +4,10 @@ ghost use Rattle.std.specs.Prelude.{◌≡◌, ◌^◌, ◌<◌};
 
 use super::asserts::{assert_same, assert_that};
 use b3_check::{Shelf, Sink, write_all};
-use b3_files::{FileShelf, MemoryDisk, MemoryFile, NamedFile, OutputSink};
-use b3_progress::{ClearingSink, CountingShelf, Progress};
+use b3_files::{
+    ClearingSink, CountingShelf, FileShelf, MemoryDisk, MemoryFile, NamedFile, OutputSink,
+};
+use b3_progress::Progress;
 use std::io::{self, ErrorKind, Write};
 use std::process::Abort;
 use std::rt::Clock;

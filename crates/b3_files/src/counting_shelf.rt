@@ -2,9 +2,9 @@
 
 ghost use Rattle.std.specs.Prelude.{◌≡◌};
 
-use crate::progress::Progress;
 use b3_hash::Hasher;
 use b3_io::{CannotRead, NoContent, Shelf};
+use b3_progress::Progress;
 use std::alloc::Global;
 use std::io::Write;
 use std::rt::Clock;

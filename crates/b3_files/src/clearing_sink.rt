@@ -2,8 +2,8 @@
 
 ghost use Rattle.std.specs.Prelude.{◌≡◌};
 
-use crate::progress::{Progress, Terminal};
 use b3_io::{Sink, SinkFailed};
+use b3_progress::{Progress, Terminal};
 use std::io::Write;
 use std::rt::Clock;
 use std::sync::{MutexGuard, Wait};
