@@ -1,4 +1,4 @@
-use Rattle.std.proofs.Common.{codes}
+use Rattle.std.proofs.Common.{codes, rules}
 use Rattle.clap.specs.Words.{found_of}
 use Rattle.b3_arguments.proofs.ReadingLemmas.{flag_read, number_read}
 use Rattle.b3_arguments.proofs.words.words_of.Goals as goal
@@ -40,3 +40,6 @@ returns-clause-words c =
           c.get_flag-11.ensures.none c.get_flag-11.ensures.value c.get_flag-11.ensures.other;
       files = c.in_ok-files.ensures;
     }
+
+pub invariant_of-result : goal.invariant_of-result
+invariant_of-result c = search rules

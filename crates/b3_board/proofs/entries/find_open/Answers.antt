@@ -1,4 +1,4 @@
-use Rattle.std.proofs.Common.{sym, ap, ◌∙◌}
+use Rattle.std.proofs.Common.{sym, ap, ◌∙◌, rules}
 use Rattle.b3_board.specs.Entries.{at}
 use Rattle.b3_board.proofs.Partners.{open_there}
 use Rattle.b3_board.proofs.entries.find_open.Goals as goal
@@ -19,3 +19,6 @@ returns-in_default-state c = record {
       (found.1 ∙ sym (ap (λ s. s.first) same)) in
       c.in_default-state.not-Open (ap (λ x. (at c.args.entries.now x).state) (sym there) ∙ is);
 }
+
+pub returns-in-Open : goal.returns-in-Open
+returns-in-Open c = search rules

@@ -1,4 +1,4 @@
-use Rattle.std.proofs.Common.{inl, inr, length, arith, ap}
+use Rattle.std.proofs.Common.{inl, inr, length, arith, ap, rules}
 use Rattle.std.proofs.lemmas.Bool.{cases_lt}
 use Rattle.std.proofs.lemmas.List.{get_or_past}
 use Rattle.b3_board.specs.Entries.{nothing, open_span}
@@ -18,3 +18,6 @@ returns-clause-waiting g c =
     let all = all_kept l.input l.mode l.first c.spans.entries now.lawful
     (returns-clause-none g c) in
     omega (arith, all, c.spans.invariant.count, c.requires.lawful.sound.all)
+
+pub spans-init : goal.spans-init
+spans-init g c = search rules

@@ -1,4 +1,4 @@
-use Rattle.std.proofs.Common.{◌<◌, sym, ap, ◌∙◌}
+use Rattle.std.proofs.Common.{◌<◌, sym, ap, ◌∙◌, rules}
 use Rattle.std.proofs.lemmas.Bool.{false≢true}
 use Rattle.b3_board.specs.Entries.{at, is_kept}
 use Rattle.b3_board.proofs.Partners.{what_is_kept, none_there, other_there, whole_alone}
@@ -32,3 +32,6 @@ returns-in_default-state c = record {
       let node = what_is_kept _ (ap (λ x. is_kept (at c.args.entries.now x).state) (sym there.0) ∙ kept) in
       c.in_default-state.not-Kept node.0 node.1;
 }
+
+pub returns-in-Kept-clause-found : goal.returns-in-Kept-clause-found
+returns-in-Kept-clause-found c = search rules

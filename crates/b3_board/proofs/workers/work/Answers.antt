@@ -1,4 +1,4 @@
-use Rattle.std.proofs.Common.{◌+◌, ◌<◌, true, false, length, refl, sym, subst, ap, ◌∙◌, arith}
+use Rattle.std.proofs.Common.{◌+◌, ◌<◌, true, false, length, refl, sym, subst, ap, ◌∙◌, arith, rules}
 use Rattle.b3_board.specs.Claiming.{tried}
 use Rattle.b3_board.specs.Shares.{ShareState}
 use Rattle.b3_board.specs.WorkerRuns.{HasWorked}
@@ -31,3 +31,6 @@ loop-i-preserved g c =
             (view ∙ ap (tried seat.view i) w.if-try_claim.false) refl (omega arith))
       ];
     }
+
+pub returns-clause-worked : goal.returns-clause-worked
+returns-clause-worked g c = search rules

@@ -117,3 +117,6 @@ returns-in-Ok-clause-done g c contents told passed =
     let done = rw c.in-Ok.ensures.task.1 at c.run_task.ensures in
     let all = IsDone-from_done contents (task_for c.args.words) _ _ c.run_task.result told done passed in
     search (rules, all)
+
+pub returns-in-Ok-clause-ends : goal.returns-in-Ok-clause-ends
+returns-in-Ok-clause-ends g c = search rules

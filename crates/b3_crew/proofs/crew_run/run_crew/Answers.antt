@@ -1,3 +1,4 @@
+use Rattle.std.proofs.Common.{rules}
 use Rattle.std.proofs.lemmas.Result.{err_from_is_err_and}
 use Rattle.b3_crew.specs.Crews.{IsUnderWay}
 use Rattle.b3_io.specs.Runs.{io_state}
@@ -13,3 +14,6 @@ returns-in_err-show-clause-led g c =
     c.say_known.new.saying =
     rw c.in_default.is at c.in_ok-entry.ensures.said in
     rw p.1 (has_refused before p.2)
+
+pub returns-then-is_empty-clause-led : goal.returns-then-is_empty-clause-led
+returns-then-is_empty-clause-led g c = search rules

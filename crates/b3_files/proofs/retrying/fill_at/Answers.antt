@@ -15,3 +15,6 @@ loop-filled-preserved g c =
           (c.loop-filled.invariant.bytes tells)
           (rw start at c.in-Ok.ensures.bytes tells);
     }
+
+pub returns-in_default-clause-bytes : goal.returns-in_default-clause-bytes
+returns-in_default-clause-bytes g c = omega arith

@@ -1,3 +1,4 @@
+use Rattle.std.proofs.lemmas.Grind.{common_steps}
 use Rattle.std.proofs.Common.{◌≡◌, ◌+◌, List, length, sum_by, rules, arith, sym, subst, ap, ◌∙◌}
 use Rattle.std.proofs.lemmas.List.{with_items_is}
 use Rattle.std.specs.Vec.{with_items}
@@ -56,3 +57,12 @@ returns-clause-lawful g c =
 
 pub returns-clause-tops : goal.returns-clause-tops
 returns-clause-tops g c all is = IsLawful-in_memory all _ is (returns-clause-lawful g c)
+
+pub invariant_of-self : goal.invariant_of-self
+invariant_of-self g c = grind (arith, common_steps)
+
+pub returns-clause-book : goal.returns-clause-book
+returns-clause-book g c = search rules
+
+pub returns-clause-share : goal.returns-clause-share
+returns-clause-share g c = cc

@@ -12,3 +12,6 @@ returns-clause-ascending g c =
 
 pub returns-clause-greatest : goal.returns-clause-greatest
 returns-clause-greatest g c = pieces_are_greatest c.args.self.now (IsLawful-seen c.self.invariant c.self.view_is)
+
+pub returns-clause-span : goal.returns-clause-span
+returns-clause-span g c = cc

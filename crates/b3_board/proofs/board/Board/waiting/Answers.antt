@@ -1,4 +1,4 @@
-use Rattle.std.proofs.Common.{◌≡◌, ◌-◌, arith, subst}
+use Rattle.std.proofs.Common.{◌≡◌, ◌-◌, arith, subst, rules}
 use Rattle.b3_core.specs.declared.spans.Span.{Span}
 use Rattle.b3_board.specs.Entries.{open_spans}
 use Rattle.b3_board.specs.BoardStates.{BoardState}
@@ -19,3 +19,6 @@ returns-clause-open g c =
       kept.booked,
     ) in
     subst (λ (p : BoardState). c.size.result - board.account.chunks ≡ chunks_in p.open_spans) c.self.view_is here
+
+pub returns-clause-all : goal.returns-clause-all
+returns-clause-all g c = search rules

@@ -1,4 +1,4 @@
-use Rattle.std.proofs.Common.{◌≡◌, eq-eqb, ne_eqb, true, false, length, refl, sym, subst, ap, ◌∙◌, arith, length-set}
+use Rattle.std.proofs.Common.{◌≡◌, eq-eqb, ne_eqb, true, false, length, refl, sym, subst, ap, ◌∙◌, arith, length-set, rules}
 use Rattle.atomic_table.specs.Table.{Me}
 use Rattle.b3_board.specs.declared.claim_rule.View.{View}
 use Rattle.b3_board.specs.Claiming.{tried}
@@ -40,3 +40,12 @@ returns-else-won-clause-own c =
     let same_length = length-set c.seat.inside.token.me.0.seen c.args.i true in
     let row = ap (λ (me : Me (Unit {0}) View). length me.0.seen) now ∙ same_length in
     IsSeatOf-kept c.self.view_is c.seat.view_is c.requires.own c.swap-found.ensures.0 row
+
+pub returns-then-won-clause-view : goal.returns-then-won-clause-view
+returns-then-won-clause-view c = search rules
+
+pub invariant_of-seat : goal.invariant_of-seat
+invariant_of-seat c = search rules
+
+pub returns-else-won-clause-view : goal.returns-else-won-clause-view
+returns-else-won-clause-view c = search rules

@@ -1,4 +1,4 @@
-use Rattle.std.proofs.Common.{◌≡◌, ℕ, ◌+◌, ◌-◌, ◌*◌, ◌≤◌, min, List, length, take, drop, Some, arith, sym, ap, ◌∙◌}
+use Rattle.std.proofs.Common.{◌≡◌, ℕ, ◌+◌, ◌-◌, ◌*◌, ◌≤◌, min, List, length, take, drop, Some, arith, sym, ap, ◌∙◌, rules}
 use Rattle.std.proofs.lemmas.List.{length-take-le, take_all}
 use Rattle.b3_board.specs.Spans.{KnownInput}
 use Rattle.b3_board.proofs.RegionBytes.{region_part}
@@ -28,3 +28,12 @@ of_bytes-requires-clause-told g c =
     let is = ap (λ (k : KnownInput). k.told) c.requires.own.input_is ∙ known in
     let h = region_part told plan.offset plan.len span bytes plan.there low read all is in
     (h.0 ∙ ap (λ (k : KnownInput). k.len) c.requires.own.input_is, h.1)
+
+pub of_bytes-requires-clause-mode : goal.of_bytes-requires-clause-mode
+of_bytes-requires-clause-mode g c = cc
+
+pub of_bytes-requires-clause-len : goal.of_bytes-requires-clause-len
+of_bytes-requires-clause-len g c = search rules
+
+pub returns-clause-span : goal.returns-clause-span
+returns-clause-span g c = cc

@@ -22,3 +22,6 @@ returns-then-not-load-clause-in_step g c = λ input_tells file_tells.
     (ap (λ n. drop n (g.I.Stream.content c.read_retrying.new.stream)) (c.in-Ok.ensures.position input_tells)
     ∙ ap (drop (a + c.in-Ok.count)) (c.in-Ok.ensures.content input_tells)
     ∙ later_same x _ a _ c.in-Ok.count same)
+
+pub returns-in_default-clause-bytes : goal.returns-in_default-clause-bytes
+returns-in_default-clause-bytes g c = omega arith

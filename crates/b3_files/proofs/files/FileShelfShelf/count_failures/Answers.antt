@@ -1,0 +1,5 @@
+use Rattle.std.proofs.Common.{arith}
+use Rattle.b3_files.proofs.files.FileShelfShelf.count_failures.Goals as goal
+
+pub returns-clause-count : goal.returns-clause-count
+returns-clause-count g c = omega arith

@@ -1,0 +1,4 @@
+use Rattle.b3_hash.proofs.hasher.Hasher.reset.Goals as goal
+
+pub returns-clause-mode : goal.returns-clause-mode
+returns-clause-mode c = cc
