@@ -133,7 +133,7 @@ LIBRARIES = (
     Law("The board", "It keeps its laws, and its root is that of its input.",
         (Public("b3_board/src/plan.rt", "Plan"), Public("b3_board/src/board.rt", "Board"))),
     Law("Workers", "Each span is claimed once, and the root is that of the input, over every schedule.",
-        (Public("b3_board/src/claims.rt"), Public("b3_board/src/workers.rt"), Public("b3_board/src/parallel.rt"),
+        (Public("b3_claims/src/claims.rt"), Public("b3_board/src/workers.rt"), Public("b3_board/src/parallel.rt"),
          Public("b3_board/src/from_source.rt"))),
     Law("Check lines", "What is written reads back, each line reads in one way, and a text has one list of pieces.",
         (Public("b3_lines/src/writing.rt"), Public("b3_lines/src/tagging.rt"), Public("b3_lines/src/reading.rt"),

@@ -3,10 +3,10 @@ use Rattle.std.proofs.Common.{◌≡◌, ℕ, zero, suc, ◌+◌, ◌*◌, ◌<�
 use Rattle.std.specs.List.{sum_by}
 use Rattle.std.proofs.lemmas.List.Sums.{sum_by-append, sum_by-cons, sum_by-le}
 use Rattle.b3_core.specs.declared.spans.Span.{Span}
-use Rattle.b3_board.specs.Claiming.{joined}
+use Rattle.b3_claims.specs.Claiming.{joined}
 use Rattle.b3_board.specs.Spans.{chunks_in}
 use Rattle.b3_board.specs.WorkerRuns.{claimed_chunks, count_at}
-use Rattle.b3_board.specs.declared.claim_rule.View.{View}
+use Rattle.b3_claims.specs.declared.claim_rule.View.{View}
 
 -- lists of one length whose elements agree under f, place by place, have one sum
 pub sum_by-same : {X : Type 0} (f : X → ℕ) (xs ys : List X) → length xs ≡ length ys

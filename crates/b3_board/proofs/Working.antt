@@ -4,12 +4,12 @@ use Rattle.std.proofs.lemmas.List.Sums.{sum_by_push}
 use mathlib.Core.Logic.{dite}
 use native.Mathlib.Decide.{ℕ_discrete}
 use Rattle.b3_core.specs.declared.spans.Span.{Span}
-use Rattle.b3_board.specs.Claiming.{is_set, tried}
-use Rattle.b3_board.specs.Seats.{BeginsWith, SeatState}
+use Rattle.b3_claims.specs.Claiming.{is_set, tried}
+use Rattle.b3_claims.specs.Seats.{BeginsWith, SeatState}
 use Rattle.b3_board.specs.Shares.{ShareState}
 use Rattle.b3_board.specs.WorkerRuns.{HasWorked, claimed_chunks, count_at}
-use Rattle.b3_board.specs.declared.claim_rule.View.{View}
-use Rattle.b3_board.proofs.ClaimedIndexes.{is_set-set_kept, is_set-set_same}
+use Rattle.b3_claims.specs.declared.claim_rule.View.{View}
+use Rattle.b3_claims.proofs.ClaimedIndexes.{is_set-set_kept, is_set-set_same}
 
 is_set-tried : (v : View) (i j : ℕ) (won : Bool) → i < length v.seen → ((k : ℕ) → k < i → is_set v.seen k ≡ true) → j < i + 1
     → is_set (tried v i won).seen j ≡ true

@@ -6,9 +6,6 @@ pub mod BoardStates
 pub mod Shares
 pub mod RootNodes
 pub mod Entries
-pub mod Claiming
-pub mod Seats
-pub mod ClaimRule
 pub mod WorkerRuns
 pub mod SpanHashers
 pub mod WorkerStates

@@ -3,10 +3,10 @@ use Rattle.std.specs.Prelude.{◌≡◌, ℕ, ◌+◌, ◌≤◌, true, List, ma
 use Rattle.std.specs.List.{sum_by}
 use Rattle.b3_core.specs.Tree.{top}
 use Rattle.b3_core.specs.declared.spans.Span.{Span}
-use Rattle.b3_board.specs.Claiming.{one_if, occurrences}
+use Rattle.b3_claims.specs.Claiming.{one_if, occurrences}
 use Rattle.b3_board.specs.Plans.{PlanState}
 use Rattle.b3_board.specs.RootNodes.{RootNode}
-use Rattle.b3_board.specs.Seats.{BeginsWith, HasSeenAll, SeatState}
+use Rattle.b3_claims.specs.Seats.{BeginsWith, HasSeenAll, SeatState}
 use Rattle.b3_board.specs.Shares.{ShareState}
 
 -- the root of the plan's input, kept by a board

@@ -1,7 +1,7 @@
 -- What each worker of a run holds: before it goes through the spans, and once it did.
 use Rattle.std.specs.Prelude.{◌≡◌, ℕ, ◌≤◌, List, [], length}
 use Rattle.b3_core.specs.declared.spans.Span.{Span}
-use Rattle.b3_board.specs.Seats.{HasSeenAll, ClaimsState, IsSeatOf}
+use Rattle.b3_claims.specs.Seats.{HasSeenAll, ClaimsState, IsSeatOf}
 use Rattle.b3_board.specs.WorkerRuns.{HasWorked, claimed_chunks}
 use Rattle.b3_board.specs.declared.worker_state.WorkerState.{WorkerState}
 

@@ -12,8 +12,6 @@
 
 mod backing;
 mod board;
-mod claim_rule;
-mod claims;
 mod cutting;
 mod entries;
 mod fault;
@@ -36,9 +34,9 @@ mod tree;
 mod worker_state;
 mod workers;
 
+pub use b3_claims::{Claims, Seat};
 pub use backing::{Backing, InMemory, InSource, SourceLedger};
 pub use board::{Board, MemoryBoard, Refused, SourceBoard};
-pub use claims::{Claims, Seat};
 pub use cutting::default_grain;
 pub use fault::BoardFault;
 pub use from_source::hash_source;

@@ -2,7 +2,7 @@
 
 ghost use Rattle.std.specs.Prelude.{◌≡◌, ℕ, ◌+◌, ◌<◌, ◌≤◌, [], All, length, sum, sum_by, true, IfErr, IfOk, IfSome, IsSome, IsTrue};
 ghost use Rattle.b3_core.specs.Tree.{chunks};
-ghost use Rattle.b3_board.specs.Seats.{IsSeatOf};
+ghost use Rattle.b3_claims.specs.Seats.{IsSeatOf};
 ghost use Rattle.b3_board.specs.Spans.{IsRootOf};
 ghost use Rattle.b3_board.specs.WorkerRuns.{HasEachOnce};
 ghost use Rattle.b3_board.specs.WorkerStates.{HasEnded, HasRun, IsNewState, seat_parts, share_parts};
@@ -10,7 +10,6 @@ ghost use Rattle.b3_board.specs.declared.fault.BoardFault.TheVariants.{Memory};
 
 use crate::backing::Backing;
 use crate::board::Board;
-use crate::claims::Claims;
 use crate::fault::BoardFault;
 use crate::gate::Gate;
 use crate::input_ledger::InputLedger;
@@ -21,6 +20,7 @@ use crate::span_hasher::SpanHasher;
 use crate::threads::for_each_beside;
 use crate::worker_state::{JoinedWorkers, WorkerState, join_workers, scatter, thread_count};
 use crate::workers::work;
+use b3_claims::Claims;
 use std::alloc::Global;
 use std::sync::{Mutex, Wait};
 use std::thread::Threads;

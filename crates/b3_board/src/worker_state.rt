@@ -1,14 +1,14 @@
 // The workers of a run, over a plan or over a source: what is handed out to them, and joined again.
 
 ghost use Rattle.std.specs.Prelude.{◌≡◌, ℕ, ◌+◌, ◌<◌, ◌≤◌, ◌^◌, [], All, length, sum, sum_by, vec_len, IfOk, IsTrue, ◌↔◌};
-ghost use Rattle.b3_board.specs.Seats.{HasSeenAll, IsSeatOf};
+ghost use Rattle.b3_claims.specs.Seats.{HasSeenAll, IsSeatOf};
 ghost use Rattle.b3_board.specs.Spans.{chunks_in};
 ghost use Rattle.b3_board.specs.WorkerRuns.{HasEachOnce};
 ghost use Rattle.b3_board.specs.WorkerStates.{HasEnded, IsNewState, seat_parts, share_parts};
 
-use crate::claims::{Claims, Seat};
 use crate::share::Share;
 use arrayvec::ArrayVec;
+use b3_claims::{Claims, Seat};
 use b3_core::Span;
 use std::alloc::{AllocError, Global};
 use std::sync::ledger::Ledger;

@@ -1,17 +1,17 @@
 // A worker goes through spans: it claims, hashes, passes the gate and deposits.
 
 ghost use Rattle.std.specs.Prelude.{◌≡◌, ℕ, ◌+◌, ◌<◌, ◌≤◌, length};
-ghost use Rattle.b3_board.specs.Seats.{IsSeatOf};
+ghost use Rattle.b3_claims.specs.Seats.{IsSeatOf};
 ghost use Rattle.b3_board.specs.WorkerRuns.{HasWorked, count_at};
 
 use crate::backing::Backing;
 use crate::board::{Board, MemoryBoard};
-use crate::claims::{Claims, Seat};
 use crate::gate::Gate;
 use crate::input_ledger::InputLedger;
 use crate::plan::Plan;
 use crate::share::Share;
 use crate::span_hasher::SpanHasher;
+use b3_claims::{Claims, Seat};
 use std::sync::ledger::Ledger;
 use std::sync::{Mutex, Wait};
 

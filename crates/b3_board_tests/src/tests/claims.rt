@@ -1,13 +1,13 @@
 // Claims by several seats, one after the other and in two threads.
 
 ghost use Rattle.std.specs.Prelude.{◌≡◌, ◌<◌, ◌≤◌};
-ghost use Rattle.b3_board.specs.Seats.{HasSeenAll, IsSeatOf};
+ghost use Rattle.b3_claims.specs.Seats.{HasSeenAll, IsSeatOf};
 
 use super::asserts::{assert_same, assert_that_for};
 use super::memory::last_growth;
 use arrayvec::ArrayVec;
-use b3_board::{BoardFault, Claims, Seat};
-use std::alloc::Global;
+use b3_board::{Claims, Seat};
+use std::alloc::{AllocError, Global};
 use std::process::Abort;
 use std::test::Fail;
 use std::thread;
@@ -81,7 +81,7 @@ fn claim_all(claims: &Claims, mut seat: Seat, n: usize) -> Seat
 }
 
 // Two threads try each index.
-fn race(rt: &impl Threads, alloc: Global, n: usize) -> Result<ArrayVec<u32, 1024>, BoardFault>
+fn race(rt: &impl Threads, alloc: Global, n: usize) -> Result<ArrayVec<u32, 1024>, AllocError>
     requires { (1 ≤ n) × (n ≤ 1024) }
 {
     let (claims, mut first) = Claims::new(alloc, n)?;
@@ -117,7 +117,7 @@ fn claims_race(rt: HostRuntime) -> Result<(), Fail> {
 fn a_refused_growth_makes_no_claims(rt: HostRuntime) {
     match Claims::new(rt.alloc(), 1024) {
         Ok((_claims, first)) => assert_same(&rt, first.parts(), 128),
-        Err(fault) => assert_same(&rt, fault, BoardFault::Memory),
+        Err(fault) => assert_same(&rt, fault, AllocError),
     }
     assert_that_for(
         &rt,

@@ -2,7 +2,7 @@
 
 ghost use Rattle.std.specs.Prelude.{◌≡◌, length};
 ghost use Rattle.b3_board.specs.Plans.{IsPlanOf};
-ghost use Rattle.b3_board.specs.Seats.{IsSeatOf};
+ghost use Rattle.b3_claims.specs.Seats.{IsSeatOf};
 
 use super::asserts::{assert_same, assert_that, assert_that_for};
 use super::{deposit, open_board, span, sweep};

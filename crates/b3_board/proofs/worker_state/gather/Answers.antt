@@ -2,11 +2,11 @@ use Rattle.std.proofs.Common.{◌≡◌, ◌+◌, [], ◌∷◌, length, sym, ap
 use Rattle.std.specs.List.{sum, sum_by}
 use Rattle.std.proofs.lemmas.List.Elements.{All-same, All-head, All-tail}
 use Rattle.std.proofs.lemmas.List.Sums.{sum_by-cons, sum_by_push}
-use Rattle.b3_board.specs.Claiming.{is_set}
+use Rattle.b3_claims.specs.Claiming.{is_set}
 use Rattle.b3_board.specs.Shares.{ShareState}
 use Rattle.b3_board.specs.WorkerStates.{HasEnded, seat_parts, share_parts}
-use Rattle.b3_board.specs.declared.claim_rule.View.{View}
-use Rattle.b3_board.proofs.ClaimedIndexes.{is_set-united_right}
+use Rattle.b3_claims.specs.declared.claim_rule.View.{View}
+use Rattle.b3_claims.proofs.ClaimedIndexes.{is_set-united_right}
 use Rattle.b3_board.proofs.WorkerStates.{claimed_chunks-joined, claimed_chunks-le}
 use Rattle.b3_board.proofs.worker_state.gather.Goals as goal
 

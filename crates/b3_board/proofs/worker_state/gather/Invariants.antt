@@ -1,5 +1,5 @@
 use Rattle.std.proofs.Common.{◌≡◌, ◌+◌, ◌≤◌, ◌<◌, All, length, sum, sum_by}
-use Rattle.b3_board.specs.Seats.{HasSeenAll, IsSeatOf}
+use Rattle.b3_claims.specs.Seats.{HasSeenAll, IsSeatOf}
 use Rattle.b3_board.specs.WorkerRuns.{claimed_chunks}
 use Rattle.b3_board.specs.WorkerStates.{HasEnded, seat_parts, share_parts}
 use Rattle.b3_board.proofs.worker_state.gather.Given as goal

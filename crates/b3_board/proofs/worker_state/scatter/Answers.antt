@@ -3,7 +3,7 @@ use Rattle.std.proofs.lemmas.List.Elements.{All-push, All-same}
 use Rattle.std.proofs.lemmas.List.Sums.{sum_by_push}
 use Rattle.b3_board.specs.Shares.{ShareState}
 use Rattle.b3_board.specs.WorkerStates.{IsNewState, seat_parts, share_parts}
-use Rattle.b3_board.specs.declared.claim_rule.View.{View}
+use Rattle.b3_claims.specs.declared.claim_rule.View.{View}
 use Rattle.b3_board.specs.declared.worker_state.WorkerState.{WorkerState}
 use Rattle.b3_board.proofs.worker_state.scatter.Goals as goal
 

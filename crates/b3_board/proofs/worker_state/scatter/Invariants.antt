@@ -1,5 +1,5 @@
 use Rattle.std.proofs.Common.{◌≡◌, ◌+◌, All, length, sum_by}
-use Rattle.b3_board.specs.Seats.{IsSeatOf}
+use Rattle.b3_claims.specs.Seats.{IsSeatOf}
 use Rattle.b3_board.specs.WorkerStates.{IsNewState, seat_parts, share_parts}
 use Rattle.b3_board.proofs.worker_state.scatter.Given as goal
 

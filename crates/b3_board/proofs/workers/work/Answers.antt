@@ -1,5 +1,5 @@
 use Rattle.std.proofs.Common.{◌+◌, ◌<◌, true, false, length, refl, sym, subst, ap, ◌∙◌, arith, rules}
-use Rattle.b3_board.specs.Claiming.{tried}
+use Rattle.b3_claims.specs.Claiming.{tried}
 use Rattle.b3_board.specs.Shares.{ShareState}
 use Rattle.b3_board.specs.WorkerRuns.{HasWorked}
 use Rattle.b3_board.proofs.Working.{HasWorked-tried}

@@ -1,4 +1,4 @@
-use Rattle.b3_board.specs.Seats.{IsSeatOf}
+use Rattle.b3_claims.specs.Seats.{IsSeatOf}
 use Rattle.b3_board.specs.WorkerRuns.{HasWorked}
 use Rattle.b3_board.proofs.workers.worker.Given as goal
 

@@ -1,12 +1,12 @@
 use Rattle.std.proofs.Common.{◌≡◌, eq-eqb, ne_eqb, true, false, length, refl, sym, subst, ap, ◌∙◌, arith, length-set, rules}
 use Rattle.atomic_table.specs.Table.{Me}
-use Rattle.b3_board.specs.declared.claim_rule.View.{View}
-use Rattle.b3_board.specs.Claiming.{tried}
-use Rattle.b3_board.specs.Seats.{ClaimsState}
-use Rattle.b3_board.specs.ClaimRule.{KeepsSeat}
-use Rattle.b3_board.proofs.ClaimSteps.{Allows-Tried}
-use Rattle.b3_board.proofs.SeatViews.{IsSeatOf-kept, IsSeatOf-same, KeepsSeat-lost}
-use Rattle.b3_board.proofs.claims.Claims.try_claim.Goals as goal
+use Rattle.b3_claims.specs.declared.claim_rule.View.{View}
+use Rattle.b3_claims.specs.Claiming.{tried}
+use Rattle.b3_claims.specs.Seats.{ClaimsState}
+use Rattle.b3_claims.specs.ClaimRule.{KeepsSeat}
+use Rattle.b3_claims.proofs.ClaimSteps.{Allows-Tried}
+use Rattle.b3_claims.proofs.SeatViews.{IsSeatOf-kept, IsSeatOf-same, KeepsSeat-lost}
+use Rattle.b3_claims.proofs.claims.Claims.try_claim.Goals as goal
 
 pub swap-found-requires : goal.swap-found-requires
 swap-found-requires c =

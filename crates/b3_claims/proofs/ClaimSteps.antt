@@ -5,11 +5,11 @@ use mathlib.Core.Option.{some, none}
 use lib.ListN.{get_elem?}
 use Rattle.atomic_table.specs.Table.{State, Me, keeps, step, Allows, Splits, Joins}
 use Rattle.atomic_table.proofs.Lists.{set_again, set_else, set_here}
-use Rattle.b3_board.specs.declared.claim_rule.View.{View}
-use Rattle.b3_board.specs.Claiming.{tried, one_less, one_part, joined}
-use Rattle.b3_board.specs.ClaimRule.{spent, AreLawful, IsSound, Tried, Told}
-use Rattle.b3_board.proofs.ClaimLaws.{AreLawful-joined, AreLawful-split, AreLawful-tried, IsSound_from_AreLawful}
-use Rattle.b3_board.proofs.ListPlaces.{length_from_get_elem?}
+use Rattle.b3_claims.specs.declared.claim_rule.View.{View}
+use Rattle.b3_claims.specs.Claiming.{tried, one_less, one_part, joined}
+use Rattle.b3_claims.specs.ClaimRule.{spent, AreLawful, IsSound, Tried, Told}
+use Rattle.b3_claims.proofs.ClaimLaws.{AreLawful-joined, AreLawful-split, AreLawful-tried, IsSound_from_AreLawful}
+use Rattle.b3_claims.proofs.ListPlaces.{length_from_get_elem?}
 
 -- the rule over n indexes, as the table has it
 abbrev Rule : ℕ → State (Unit {0}) View → Type 0

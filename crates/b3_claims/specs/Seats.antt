@@ -1,8 +1,8 @@
 -- Claims and their seats, as contracts see them.
 use Rattle.std.specs.Prelude.{◌≡◌, ℕ, ◌<◌, List, ◌++◌, length, true}
 use Rattle.atomic_table.specs.Seated.{TableId}
-use Rattle.b3_board.specs.Claiming.{is_set}
-use Rattle.b3_board.specs.declared.claim_rule.View.{View}
+use Rattle.b3_claims.specs.Claiming.{is_set}
+use Rattle.b3_claims.specs.declared.claim_rule.View.{View}
 
 -- claims: how many indexes there are, and the table of their words
 pub record ClaimsState : Type 0 where

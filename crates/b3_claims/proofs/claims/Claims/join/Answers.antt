@@ -1,12 +1,12 @@
 use Rattle.std.proofs.Common.{◌≤◌, ◌+◌, ◌++◌, ℕ, List, length, subst, sym, ap, ◌∙◌, arith, length-append}
 use Rattle.atomic_table.specs.Table.{Me}
-use Rattle.b3_board.specs.declared.claim_rule.View.{View}
-use Rattle.b3_board.specs.ClaimRule.{IsSound, KeepsSeat}
-use Rattle.b3_board.specs.Seats.{ClaimsState}
-use Rattle.b3_board.proofs.ClaimedIndexes.{length-united}
-use Rattle.b3_board.proofs.ClaimSteps.{Allows-Told, Joins-joined}
-use Rattle.b3_board.proofs.SeatViews.{IsSeatOf-kept, IsSeatOf-same, KeepsSeat-joined, use_OnOk}
-use Rattle.b3_board.proofs.claims.Claims.join.Goals as goal
+use Rattle.b3_claims.specs.declared.claim_rule.View.{View}
+use Rattle.b3_claims.specs.ClaimRule.{IsSound, KeepsSeat}
+use Rattle.b3_claims.specs.Seats.{ClaimsState}
+use Rattle.b3_claims.proofs.ClaimedIndexes.{length-united}
+use Rattle.b3_claims.proofs.ClaimSteps.{Allows-Told, Joins-joined}
+use Rattle.b3_claims.proofs.SeatViews.{IsSeatOf-kept, IsSeatOf-same, KeepsSeat-joined, use_OnOk}
+use Rattle.b3_claims.proofs.claims.Claims.join.Goals as goal
 
 pub join_seat-requires : goal.join_seat-requires
 join_seat-requires c =

@@ -8,12 +8,12 @@ use mathlib.Core.Option.{some}
 use mathlib.Core.Logic.{dite}
 use native.Mathlib.Decide.{ℕ_discrete}
 use lib.ListN.{get_elem?}
-use Rattle.b3_board.specs.declared.claim_rule.View.{View}
-use Rattle.b3_board.specs.Claiming.{one_if, occurrences, is_set, united, tried, one_less, one_part, joined}
-use Rattle.b3_board.specs.ClaimRule.{spent, IsLawfulView, AreLawful, IsSound}
-use Rattle.b3_board.proofs.ClaimedIndexes.{All-occurrences, is_set-set_kept, is_set-set_other, is_set-set_same, is_set-united_left, is_set-united_right, has_from_united, length-le_from_times, length-united, occurrences-append, occurrences-push_other, occurrences-push_same}
-use Rattle.b3_board.proofs.ClaimWords.{once_from_swap, word-set_bit, word-set_kept, word-set_other, word-set_same, word-set_spare}
-use Rattle.b3_board.proofs.ListPlaces.{All-get_elem?, at-le-sum_by, sum_by-alone, sum_by-set_at}
+use Rattle.b3_claims.specs.declared.claim_rule.View.{View}
+use Rattle.b3_claims.specs.Claiming.{one_if, occurrences, is_set, united, tried, one_less, one_part, joined}
+use Rattle.b3_claims.specs.ClaimRule.{spent, IsLawfulView, AreLawful, IsSound}
+use Rattle.b3_claims.proofs.ClaimedIndexes.{All-occurrences, is_set-set_kept, is_set-set_other, is_set-set_same, is_set-united_left, is_set-united_right, has_from_united, length-le_from_times, length-united, occurrences-append, occurrences-push_other, occurrences-push_same}
+use Rattle.b3_claims.proofs.ClaimWords.{once_from_swap, word-set_bit, word-set_kept, word-set_other, word-set_same, word-set_spare}
+use Rattle.b3_claims.proofs.ListPlaces.{All-get_elem?, at-le-sum_by, sum_by-alone, sum_by-set_at}
 
 -- what the rule says of each view
 abbrev IsView : ℕ → List ℕ → View → Type 0

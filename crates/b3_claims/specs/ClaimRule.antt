@@ -2,8 +2,8 @@
 -- tells the seat that makes it, and what a seat keeps of that.
 use Rattle.std.specs.Prelude.{◌≡◌, ◌⊎◌, ℕ, ◌+◌, ◌<◌, ◌≤◌, true, ◌==◌, List, [], length, slice_index, sum_by, All}
 use Rattle.atomic_table.specs.Table.{Me, Step}
-use Rattle.b3_board.specs.Claiming.{is_set, one_if, occurrences, tried}
-use Rattle.b3_board.specs.declared.claim_rule.View.{View}
+use Rattle.b3_claims.specs.Claiming.{is_set, one_if, occurrences, tried}
+use Rattle.b3_claims.specs.declared.claim_rule.View.{View}
 
 -- what is left of a seat that was joined to another
 abbrev pub spent : View

@@ -1,13 +1,11 @@
 // Claims on indexes, each by one swap of a shared word, and the seats that claim.
 
-ghost use Rattle.std.specs.Prelude.{◌≡◌, ℕ, ◌+◌, ◌<◌, ◌≤◌, [], length, IfOk, IsOkUnless};
-ghost use Rattle.b3_board.specs.declared.fault.BoardFault.TheVariants.{Memory};
+ghost use Rattle.std.specs.Prelude.{◌≡◌, ℕ, ◌+◌, ◌<◌, ◌≤◌, [], length, IfOk};
 
 use crate::claim_rule::{ClaimRule, Look, OnePart, Try, View};
-use crate::fault::BoardFault;
 use arrayvec::ArrayVec;
 use atomic_table::Table;
-use std::alloc::Global;
+use std::alloc::{AllocError, Global};
 use std::marker::Model;
 
 const PARTS: u32 = 128;
@@ -22,7 +20,7 @@ pub struct Claims {
 }
 
 impl Model for Claims {
-    ghost use Rattle.b3_board.specs.Seats.{ClaimsState};
+    ghost use Rattle.b3_claims.specs.Seats.{ClaimsState};
 
     ghost Value = { ClaimsState };
 
@@ -39,8 +37,8 @@ pub struct Seat {
 }
 
 impl Model for Seat {
-    ghost use Rattle.b3_board.specs.Seats.{SeatState};
-    ghost use Rattle.b3_board.specs.ClaimRule.{KeepsSeat};
+    ghost use Rattle.b3_claims.specs.Seats.{SeatState};
+    ghost use Rattle.b3_claims.specs.ClaimRule.{KeepsSeat};
 
     ghost Value = { SeatState };
 
@@ -68,18 +66,17 @@ impl Seat {
 }
 
 impl Claims {
-    ghost use Rattle.b3_board.specs.Claiming.{is_set, joined, newcomer, one_if, one_less, one_part, occurrences, tried};
-    ghost use Rattle.b3_board.specs.Seats.{IsSeatOf};
+    ghost use Rattle.b3_claims.specs.Claiming.{is_set, joined, newcomer, one_if, one_less, one_part, occurrences, tried};
+    ghost use Rattle.b3_claims.specs.Seats.{IsSeatOf};
 
     /// Claims on the indexes below n, none of them taken, and the first seat, which has all 128 parts.
     ///
     /// It takes all its memory here.
-    pub fn new(alloc: Global, n: usize) -> Result<(Claims, Seat), BoardFault>
+    pub fn new(alloc: Global, n: usize) -> Result<(Claims, Seat), AllocError>
         requires { (1 ≤ n) × (n ≤ 1024) }
         ensures count { IfOk result (λ made. made.0.count ≡ n) }
         ensures own { IfOk result (λ made. IsSeatOf made.0 made.1) }
         ensures seat { IfOk result (λ made. made.1.view ≡ newcomer n) }
-        ensures only { IsOkUnless result Memory }
     {
         let words = vec![in alloc; 0u64; n + 1]?;
         let (table, token) = Table::of_words(alloc, words.as_slice(), &n)?;

@@ -1,8 +1,8 @@
 use Rattle.std.proofs.Common.{ap, arith}
-use Rattle.b3_board.specs.Seats.{SeatState}
-use Rattle.b3_board.proofs.ClaimSteps.{Splits-one_part}
-use Rattle.b3_board.proofs.SeatViews.{IsSeatOf-same}
-use Rattle.b3_board.proofs.claims.Claims.split.Goals as goal
+use Rattle.b3_claims.specs.Seats.{SeatState}
+use Rattle.b3_claims.proofs.ClaimSteps.{Splits-one_part}
+use Rattle.b3_claims.proofs.SeatViews.{IsSeatOf-same}
+use Rattle.b3_claims.proofs.claims.Claims.split.Goals as goal
 
 pub split_seat-token-requires : goal.split_seat-token-requires
 split_seat-token-requires c =

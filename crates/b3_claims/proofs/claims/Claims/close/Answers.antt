@@ -1,7 +1,7 @@
 use Rattle.std.proofs.Common.{arith, rules}
-use Rattle.b3_board.proofs.ClaimSteps.{Allows-Told}
-use Rattle.b3_board.proofs.SeatViews.{IsSeatOf-same}
-use Rattle.b3_board.proofs.claims.Claims.close.Goals as goal
+use Rattle.b3_claims.proofs.ClaimSteps.{Allows-Told}
+use Rattle.b3_claims.proofs.SeatViews.{IsSeatOf-same}
+use Rattle.b3_claims.proofs.claims.Claims.close.Goals as goal
 
 pub load-requires : goal.load-requires
 load-requires c =

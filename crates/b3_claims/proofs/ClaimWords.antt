@@ -4,7 +4,7 @@ use Rattle.std.specs.Prelude.{slice_index}
 use Rattle.std.proofs.lemmas.List.{get_or-set_same, get_or-set_other}
 use mathlib.Core.Logic.{dite}
 use native.Mathlib.Decide.{ℕ_discrete}
-use Rattle.b3_board.specs.Claiming.{one_if}
+use Rattle.b3_claims.specs.Claiming.{one_if}
 
 pub word-set_same : (words : List ℕ) (n i : ℕ) → length words ≡ n + 1 → i < n
     → slice_index (set words (i + 1) 1) (i + 1) ≡ 1

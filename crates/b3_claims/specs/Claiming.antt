@@ -1,7 +1,7 @@
 -- What a seat knows of claims on the indexes below n: its parts, its list, and which indexes it has seen taken; and
 -- what each call makes of that.
 use Rattle.std.specs.Prelude.{ℕ, ◌+◌, ◌-◌, Bool, true, false, ◌||◌, ◌==◌, if◌then◌else◌, List, [], ◌∷◌, ◌++◌, replicate, slice_index_or, slice_set, sum_by}
-use Rattle.b3_board.specs.declared.claim_rule.View.{View}
+use Rattle.b3_claims.specs.declared.claim_rule.View.{View}
 
 abbrev pub one_if : Bool → ℕ
 one_if true = 1

@@ -7,7 +7,7 @@ use Rattle.std.proofs.lemmas.List.Sums.{sum_by-append, sum_by-cons, sum_by_push}
 use Rattle.std.proofs.lemmas.Map.Steps.{length-le_from_distinct_below}
 use mathlib.Core.Logic.{dite}
 use native.Mathlib.Decide.{ℕ_discrete}
-use Rattle.b3_board.specs.Claiming.{one_if, occurrences, is_set, united}
+use Rattle.b3_claims.specs.Claiming.{one_if, occurrences, is_set, united}
 
 -- one index, in a list of one
 one_if-same : (i : ℕ) → one_if (eqb i i) ≡ 1

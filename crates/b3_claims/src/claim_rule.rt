@@ -15,8 +15,8 @@ pub(crate) struct View {
 pub(crate) struct ClaimRule;
 
 impl TableRule<(), View, usize> for ClaimRule {
-    ghost use Rattle.b3_board.specs.Claiming.{newcomer};
-    ghost use Rattle.b3_board.specs.ClaimRule.{AreLawful};
+    ghost use Rattle.b3_claims.specs.Claiming.{newcomer};
+    ghost use Rattle.b3_claims.specs.ClaimRule.{AreLawful};
 
     ghost holds = { λ n s. AreLawful n s.words s.views };
 
@@ -27,7 +27,7 @@ impl TableRule<(), View, usize> for ClaimRule {
 pub(crate) struct Try;
 
 impl Play<(), View> for Try {
-    ghost use Rattle.b3_board.specs.ClaimRule.{Tried};
+    ghost use Rattle.b3_claims.specs.ClaimRule.{Tried};
 
     ghost then = { Tried };
 }
@@ -36,7 +36,7 @@ impl Play<(), View> for Try {
 pub(crate) struct Look;
 
 impl Play<(), View> for Look {
-    ghost use Rattle.b3_board.specs.ClaimRule.{Told};
+    ghost use Rattle.b3_claims.specs.ClaimRule.{Told};
 
     ghost then = { Told };
 }
@@ -45,7 +45,7 @@ impl Play<(), View> for Look {
 pub(crate) struct OnePart;
 
 impl Split<View> for OnePart {
-    ghost use Rattle.b3_board.specs.Claiming.{one_less, one_part};
+    ghost use Rattle.b3_claims.specs.Claiming.{one_less, one_part};
 
     ghost left = { one_less };
 
@@ -53,8 +53,8 @@ impl Split<View> for OnePart {
 }
 
 impl Join<View> for OnePart {
-    ghost use Rattle.b3_board.specs.Claiming.{joined};
-    ghost use Rattle.b3_board.specs.ClaimRule.{spent};
+    ghost use Rattle.b3_claims.specs.Claiming.{joined};
+    ghost use Rattle.b3_claims.specs.ClaimRule.{spent};
 
     ghost both = { joined };
 

@@ -3,10 +3,10 @@ use Rattle.std.proofs.Common.{◌≡◌, ℕ, ◌+◌, false, true≢false, List
 use Rattle.std.specs.Prelude.{Result, Ok, Err, IsOk, OnOk}
 use Rattle.atomic_table.specs.Seated.{TableId}
 use Rattle.atomic_table.specs.Table.{Me}
-use Rattle.b3_board.specs.declared.claim_rule.View.{View}
-use Rattle.b3_board.specs.Claiming.{joined, tried}
-use Rattle.b3_board.specs.ClaimRule.{IsSound, KeepsSeat}
-use Rattle.b3_board.specs.Seats.{ClaimsState, SeatState, IsSeatOf}
+use Rattle.b3_claims.specs.declared.claim_rule.View.{View}
+use Rattle.b3_claims.specs.Claiming.{joined, tried}
+use Rattle.b3_claims.specs.ClaimRule.{IsSound, KeepsSeat}
+use Rattle.b3_claims.specs.Seats.{ClaimsState, SeatState, IsSeatOf}
 
 pub IsSeatOf-same : {x y : ClaimsState} {s t : SeatState} → x ≡ y → s ≡ t → IsSeatOf y t → IsSeatOf x s
 IsSeatOf-same p q own = (

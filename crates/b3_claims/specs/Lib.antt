@@ -1,0 +1,3 @@
+pub mod Claiming
+pub mod Seats
+pub mod ClaimRule
