@@ -9,6 +9,7 @@ mod crew_files;
 mod ended;
 mod failing;
 mod faults;
+mod laws;
 mod lengths;
 mod lettered_files;
 mod memory;

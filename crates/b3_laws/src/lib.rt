@@ -4,8 +4,6 @@
 mod files;
 mod laws;
 mod runs;
-#[cfg(test)]
-mod tests;
 
 pub use files::File;
 pub use laws::{SumsAndChecks, sums_check};
