@@ -1,12 +1,12 @@
 // Whole calls, from their arguments to their texts and their status.
 
-ghost use Rattle.std.specs.Prelude.{◌≡◌, IfOk};
+ghost use Rattle.std.specs.Prelude.{◌≡◌, ◌<◌, ◌^◌, IfOk};
 
-use super::asserts::{assert_same, assert_that};
+use super::asserts::assert_same;
 use b3_board::OpenGate;
 use b3_call::run_call;
 use b3_check::{MemoryShelf, MemorySink, Shelf, Sink};
-use b3_files::{FileShelf, MemoryFile, OutputSink, RealDisk};
+use b3_files::{FileShelf, MemoryDisk, MemoryFile, NamedFile, OutputSink};
 use b3_progress::Progress;
 use std::alloc::{AllocError, Global};
 use std::io;
@@ -32,7 +32,44 @@ pub fn arguments(alloc: Global, words: &[&str]) -> Result<Vec<String>, AllocErro
     Ok(all)
 }
 
-/// A call over this shelf, which writes these texts and ends with this status.
+// The status of a call that shows no progress. What `run_call` asks of so many types is proved here alone.
+fn status_of<R: Threads + Wait + Clock + Sync, S: Shelf + Send + Sync, O: Sink, E: Sink>(
+    rt: &R,
+    alloc: Global,
+    arguments: io::Result<Vec<String>>,
+    shelf: &mut S,
+    out: &mut O,
+    err: &mut E,
+) -> u8
+    requires shelf { S.failures shelf.old < 2 ^ 63 }
+    requires out { O.failures out.old < 2 ^ 63 }
+    requires err { E.failures err.old < 2 ^ 63 }
+{
+    let silent = silent(rt, alloc);
+    run_call(rt, alloc, arguments, shelf, out, err, &OpenGate, &silent)
+}
+
+// A call with these arguments over this shelf, which writes these texts and ends with this status.
+fn assert_ended<R: Abort + Threads + Wait + Clock + Sync, S: Shelf + Send + Sync>(
+    rt: &R,
+    alloc: Global,
+    shelf: &mut S,
+    arguments: io::Result<Vec<String>>,
+    out: &[u8],
+    err: &[u8],
+    status: u8,
+)
+    requires { S.failures shelf.old ≡ 0 }
+{
+    let mut out_sink = MemorySink::new(alloc);
+    let mut err_sink = MemorySink::new(alloc);
+    let ended = status_of(rt, alloc, arguments, shelf, &mut out_sink, &mut err_sink);
+    assert_same(rt, out_sink.bytes(), out);
+    assert_same(rt, err_sink.bytes(), err);
+    assert_same(rt, ended, status);
+}
+
+/// The same with these words.
 pub fn assert_call<R: Abort + Threads + Wait + Clock + Sync, S: Shelf + Send + Sync>(
     rt: &R,
     alloc: Global,
@@ -44,33 +81,24 @@ pub fn assert_call<R: Abort + Threads + Wait + Clock + Sync, S: Shelf + Send + S
 ) -> Result<(), AllocError>
     requires { S.failures shelf.old ≡ 0 }
 {
-    let mut out_sink = MemorySink::new(alloc);
-    let mut err_sink = MemorySink::new(alloc);
-    let words = Ok(arguments(alloc, words)?);
-    let ended = run_call(
-        rt,
-        alloc,
-        words,
-        shelf,
-        &mut out_sink,
-        &mut err_sink,
-        &OpenGate,
-        &silent(rt, alloc),
-    );
-    assert_same(rt, out_sink.bytes(), out);
-    assert_same(rt, err_sink.bytes(), err);
-    assert_same(rt, ended, status);
+    let arguments = arguments(alloc, words)?;
+    assert_ended(rt, alloc, shelf, Ok(arguments), out, err, status);
     Ok(())
 }
 
-// A call over the program's own shelf, with no file but its input. It is a macro, since what a function sends to
-// a thread may not rest on a bound of its own.
-macro_rules! assert_piped {
-    ($rt:expr, $input:expr, $words:expr, $out:expr, $err:expr, $status:expr $(,)?) => {{
-        let input: &[u8] = $input;
-        let mut shelf = FileShelf::new(RealDisk::new($rt), MemoryFile::new(input));
-        assert_call($rt, $rt.alloc(), &mut shelf, $words, $out, $err, $status)
-    }};
+/// The same over the program's own shelf, with these files and this input.
+pub fn assert_piped<R: Abort + Threads + Wait + Clock + Sync>(
+    rt: &R,
+    alloc: Global,
+    files: &[NamedFile<'_>],
+    input: &[u8],
+    words: &[&str],
+    out: &[u8],
+    err: &[u8],
+    status: u8,
+) -> Result<(), AllocError> {
+    let mut shelf = FileShelf::new(MemoryDisk::new(files), MemoryFile::new(input));
+    assert_call(rt, alloc, &mut shelf, words, out, err, status)
 }
 
 // Words, and what a call with them writes of an input that is empty.
@@ -91,19 +119,23 @@ const LINES: [(&[&str], &[u8]); 5] = [
 #[test]
 fn standard_input_has_its_line(rt: HostRuntime) -> Result<(), AllocError> {
     for (words, out) in LINES {
-        assert_piped!(&rt, b"", words, out, b"", 0)?;
+        assert_piped(&rt, rt.alloc(), &[], b"", words, out, b"", 0)?;
     }
     Ok(())
 }
 
 #[test]
 fn standard_input_is_read_once(rt: HostRuntime) -> Result<(), AllocError> {
+    let alloc = rt.alloc();
     let words = ["-", "-"];
-    assert_piped!(&rt, b"", &words, EMPTY_LINE, b"b3sum: -: cannot read\n", 1)?;
+    let err = b"b3sum: -: cannot read\n";
+    assert_piped(&rt, alloc, &[], b"", &words, EMPTY_LINE, err, 1)?;
     let list = b"af1349b9f5f9a1a6a0404dea36dcc9499bcb25c9adc112b7cc9a93cae41f3262  -\n";
     let warning = b"b3sum: WARNING: 1 computed checksum did NOT match\n";
-    assert_piped!(
+    assert_piped(
         &rt,
+        alloc,
+        &[],
         list,
         &["--check"],
         b"-: FAILED (cannot read)\n",
@@ -274,9 +306,29 @@ fn refused() -> &'static [(&'static [&'static str], &'static str)] {
 #[test]
 fn words_that_ask_for_nothing_that_can_be_done(rt: HostRuntime) -> Result<(), AllocError> {
     for (words, err) in refused() {
-        assert_piped!(&rt, b"", words, b"", err.as_bytes(), 2)?;
+        assert_piped(&rt, rt.alloc(), &[], b"", words, b"", err.as_bytes(), 2)?;
     }
     Ok(())
+}
+
+fn assert_no_arguments<R: Abort + Threads + Wait + Clock + Sync>(
+    rt: &R,
+    alloc: Global,
+    kind: io::ErrorKind,
+    text: &str,
+    status: u8,
+) {
+    let mut shelf = MemoryShelf::new(alloc);
+    let arguments = Err(io::Error::from(kind));
+    assert_ended(
+        rt,
+        alloc,
+        &mut shelf,
+        arguments,
+        b"",
+        text.as_bytes(),
+        status,
+    );
 }
 
 #[test]
@@ -290,23 +342,7 @@ fn arguments_that_cannot_be_had(rt: HostRuntime) {
         (io::ErrorKind::OutOfMemory, "b3sum: out of memory\n", 1),
     ];
     for (kind, text, status) in &rows {
-        let mut shelf = FileShelf::new(RealDisk::new(&rt), MemoryFile::new(b""));
-        let mut out = MemorySink::new(rt.alloc());
-        let mut err = MemorySink::new(rt.alloc());
-        let arguments = Err(io::Error::from(*kind));
-        let ended = run_call(
-            &rt,
-            rt.alloc(),
-            arguments,
-            &mut shelf,
-            &mut out,
-            &mut err,
-            &OpenGate,
-            &silent(&rt, rt.alloc()),
-        );
-        assert_that(&rt, out.bytes().is_empty());
-        assert_same(&rt, err.bytes(), text.as_bytes());
-        assert_same(&rt, ended, *status);
+        assert_no_arguments(&rt, rt.alloc(), *kind, text, *status);
     }
 }
 
@@ -322,30 +358,26 @@ fn assert_cut_short<R: Abort + AllocGlobal + Threads + Wait + Clock + Sync, S: S
     let mut out = OutputSink::new(buffer.as_mut_slice());
     let mut err = MemorySink::new(rt.alloc());
     let words = Ok(arguments(rt.alloc(), words)?);
-    let silent = silent(rt, rt.alloc());
-    let ended = run_call(
-        rt,
-        rt.alloc(),
-        words,
-        shelf,
-        &mut out,
-        &mut err,
-        &OpenGate,
-        &silent,
-    );
+    let ended = status_of(rt, rt.alloc(), words, shelf, &mut out, &mut err);
     assert_same(rt, err.bytes(), b"b3sum: cannot write\n".as_slice());
     assert_same(rt, ended, 1);
     Ok(())
 }
 
+fn assert_piped_cut_short<R: Abort + AllocGlobal + Threads + Wait + Clock + Sync>(
+    rt: &R,
+    words: &[&str],
+) -> Result<(), AllocError> {
+    let mut shelf = FileShelf::new(MemoryDisk::new(&[]), MemoryFile::new(b""));
+    assert_cut_short(rt, &mut shelf, words)
+}
+
 #[test]
 fn an_output_that_is_full(rt: HostRuntime) -> Result<(), AllocError> {
-    let mut shelf = FileShelf::new(RealDisk::new(&rt), MemoryFile::new(b""));
-    assert_cut_short(&rt, &mut shelf, &[])?;
-    let mut shelf = FileShelf::new(RealDisk::new(&rt), MemoryFile::new(b""));
-    assert_cut_short(&rt, &mut shelf, &["--help"])?;
-    let mut shelf = FileShelf::new(RealDisk::new(&rt), MemoryFile::new(b""));
-    assert_cut_short(&rt, &mut shelf, &["--version"])?;
+    let rows: [&[&str]; 3] = [&[], &["--help"], &["--version"]];
+    for words in rows {
+        assert_piped_cut_short(&rt, words)?;
+    }
     let mut shelf = two_lists(rt.alloc())?;
     assert_cut_short(
         &rt,

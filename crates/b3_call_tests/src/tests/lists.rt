@@ -2,10 +2,14 @@
 
 ghost use Rattle.std.specs.Prelude.{◌≡◌, IfOk};
 
-use crate::tests::calls::assert_call;
+use crate::tests::calls::{assert_call, assert_piped};
 use b3_check::{MemoryShelf, Shelf};
-use b3_files::{FileShelf, MemoryDisk, MemoryFile, NamedFile};
+use b3_files::NamedFile;
 use std::alloc::{AllocError, Global};
+use std::process::Abort;
+use std::rt::Clock;
+use std::sync::Wait;
+use std::thread::Threads;
 
 const LINE: &str = "af1349b9f5f9a1a6a0404dea36dcc9499bcb25c9adc112b7cc9a93cae41f3262";
 
@@ -21,6 +25,20 @@ fn shelf_with(alloc: Global, names: &[u8]) -> Result<MemoryShelf, AllocError>
     )?;
     shelf.put("n", names)?;
     Ok(shelf)
+}
+
+// A call over this shelf.
+fn assert_over<R: Abort + Threads + Wait + Clock + Sync>(
+    rt: &R,
+    alloc: Global,
+    names: &[u8],
+    words: &[&str],
+    out: &[u8],
+    err: &[u8],
+    status: u8,
+) -> Result<(), AllocError> {
+    let mut shelf = shelf_with(alloc, names)?;
+    assert_call(rt, alloc, &mut shelf, words, out, err, status)
 }
 
 // What a content of `n` has the program write, and its status.
@@ -50,17 +68,16 @@ fn rows() -> &'static [(&'static [u8], &'static str, &'static str, u8)] {
 fn names_of_a_list(rt: HostRuntime) -> Result<(), AllocError> {
     let alloc = rt.alloc();
     for (names, lines, err, status) in rows() {
-        let mut shelf = shelf_with(alloc, names)?;
         let mut out = String::new(alloc);
         for _ in lines.chars() {
             out.push_str(LINE)?;
             out.push_str("  e\n")?;
         }
         let words = ["--files0-from", "n"];
-        assert_call(
+        assert_over(
             &rt,
             alloc,
-            &mut shelf,
+            names,
             &words,
             out.as_bytes(),
             err.as_bytes(),
@@ -70,19 +87,42 @@ fn names_of_a_list(rt: HostRuntime) -> Result<(), AllocError> {
     Ok(())
 }
 
+// A content of `n`, words, and what a call with them writes.
+const CHECKS: &[(&[u8], &[&str], &str, &str, u8)] = &[
+    (
+        b"l\0\xff\0gone\0\0l",
+        &["--check", "--files0-from", "n"],
+        "e: OK\ne: OK\n",
+        "b3sum: n: name 2 is not text\nb3sum: gone: cannot read\nb3sum: : cannot read\n",
+        1,
+    ),
+    (
+        b"\xff",
+        &["--check", "--status", "--files0-from", "n"],
+        "",
+        "",
+        1,
+    ),
+    (b"", &["--check", "--files0-from", "n"], "", "", 0),
+];
+
+fn checks() -> &'static [(
+    &'static [u8],
+    &'static [&'static str],
+    &'static str,
+    &'static str,
+    u8,
+)] {
+    CHECKS
+}
+
 #[test]
 fn lists_to_check(rt: HostRuntime) -> Result<(), AllocError> {
-    let alloc = rt.alloc();
-    let mut shelf = shelf_with(alloc, b"l\0\xff\0gone\0\0l")?;
-    let words = ["--check", "--files0-from", "n"];
-    let err = b"b3sum: n: name 2 is not text\nb3sum: gone: cannot read\nb3sum: : cannot read\n";
-    assert_call(&rt, alloc, &mut shelf, &words, b"e: OK\ne: OK\n", err, 1)?;
-    let mut shelf = shelf_with(alloc, b"\xff")?;
-    let words = ["--check", "--status", "--files0-from", "n"];
-    assert_call(&rt, alloc, &mut shelf, &words, b"", b"", 1)?;
-    let mut shelf = shelf_with(alloc, b"")?;
-    let words = ["--check", "--files0-from", "n"];
-    assert_call(&rt, alloc, &mut shelf, &words, b"", b"", 0)
+    for (names, words, out, err, status) in checks() {
+        let (out, err) = (out.as_bytes(), err.as_bytes());
+        assert_over(&rt, rt.alloc(), names, words, out, err, *status)?;
+    }
+    Ok(())
 }
 
 #[test]
@@ -94,8 +134,7 @@ fn a_list_that_cannot_be_read(rt: HostRuntime) -> Result<(), AllocError> {
         ["--check", "--files0-from", "gone"].as_slice(),
         ["--check", "--status", "--files0-from", "gone"].as_slice(),
     ] {
-        let mut shelf = shelf_with(alloc, b"")?;
-        assert_call(&rt, alloc, &mut shelf, words, b"", said, 1)?;
+        assert_over(&rt, alloc, b"", words, b"", said, 1)?;
     }
     Ok(())
 }
@@ -108,14 +147,10 @@ fn names_that_are_refused(rt: HostRuntime) -> Result<(), AllocError> {
     let raw = ["--raw", "-l", "1", "--files0-from", "n"];
     let needs_files = b"b3sum: --keyed needs files\n";
     let one_input = b"b3sum: --raw takes one input\n";
-    let mut shelf = shelf_with(alloc, b"e\0-")?;
-    assert_call(&rt, alloc, &mut shelf, &keyed, b"", needs_files, 2)?;
-    let mut shelf = shelf_with(alloc, b"e\0e")?;
-    assert_call(&rt, alloc, &mut shelf, &raw, b"", one_input, 2)?;
-    let mut shelf = shelf_with(alloc, b"e\0")?;
-    assert_call(&rt, alloc, &mut shelf, &raw, b"\xaf", b"", 0)?;
-    let mut shelf = shelf_with(alloc, b"")?;
-    assert_call(&rt, alloc, &mut shelf, &raw, b"", b"", 0)
+    assert_over(&rt, alloc, b"e\0-", &keyed, b"", needs_files, 2)?;
+    assert_over(&rt, alloc, b"e\0e", &raw, b"", one_input, 2)?;
+    assert_over(&rt, alloc, b"e\0", &raw, b"\xaf", b"", 0)?;
+    assert_over(&rt, alloc, b"", &raw, b"", b"", 0)
 }
 
 // A key is read after the list.
@@ -137,10 +172,9 @@ fn a_list_in_standard_input(rt: HostRuntime) -> Result<(), AllocError> {
         name: "e",
         content: b"",
     }];
-    let input = MemoryFile::new(b"e\0-\0");
-    let mut shelf = FileShelf::new(MemoryDisk::new(&files), input);
+    let input = b"e\0-\0";
     let line = b"af1349b9f5f9a1a6a0404dea36dcc9499bcb25c9adc112b7cc9a93cae41f3262  e\n";
     let words = ["--files0-from", "-"];
     let said = b"b3sum: -: cannot read\n";
-    assert_call(&rt, alloc, &mut shelf, &words, line, said, 1)
+    assert_piped(&rt, alloc, &files, input, &words, line, said, 1)
 }

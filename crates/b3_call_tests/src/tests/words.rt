@@ -51,36 +51,45 @@ const ALL: [&str; 26] = [
     "-",
 ];
 
-#[test]
-fn all_words(rt: HostRuntime) -> Result<(), Stop> {
-    let words = read(rt.alloc(), &ALL)?;
+fn assert_flags(rt: &impl Abort, words: &Words) {
     assert_that(
-        &rt,
+        rt,
         words.check && words.keyed && words.raw && words.no_names && words.quiet,
     );
     assert_that(
-        &rt,
+        rt,
         words.tag && words.ignore_missing && words.status && words.strict && words.warn,
     );
-    assert_that(&rt, words.progress && !words.wants_progress());
-    assert_same(&rt, words.seek, Some(7));
+    assert_that(rt, words.progress && !words.wants_progress());
+}
+
+fn text_of(given: &Option<String>) -> &str {
+    match given {
+        Some(text) => text.as_str(),
+        None => "",
+    }
+}
+
+fn assert_values(rt: &impl Abort, words: &Words) {
+    assert_same(rt, words.seek, Some(7));
+    assert_same(rt, text_of(&words.derive_key), "a context");
+    assert_same(rt, words.length, Some(0));
+    assert_same(rt, words.num_threads, Some(0));
+    assert_same(rt, text_of(&words.files0_from), "names");
     assert_that(
-        &rt,
-        words.derive_key == Some(String::from_str(rt.alloc(), "a context")?),
-    );
-    assert_same(&rt, words.length, Some(0));
-    assert_same(&rt, words.num_threads, Some(0));
-    assert_that(
-        &rt,
-        words.files0_from == Some(String::from_str(rt.alloc(), "names")?),
-    );
-    assert_that(&rt, words.files.len() == 3);
-    assert_that(
-        &rt,
-        words.files[0].as_str() == "a"
+        rt,
+        words.files.len() == 3
+            && words.files[0].as_str() == "a"
             && words.files[1].as_str() == "-b"
             && words.files[2].as_str() == "-",
     );
+}
+
+#[test]
+fn all_words(rt: HostRuntime) -> Result<(), Stop> {
+    let words = read(rt.alloc(), &ALL)?;
+    assert_flags(&rt, &words);
+    assert_values(&rt, &words);
     Ok(())
 }
 
