@@ -1,4 +1,4 @@
-use Rattle.std.proofs.Common.{◌++◌, ◌∙◌, Result, Ok, Err, IsSome, OnErr, take, sym, subst, arith}
+use Rattle.std.proofs.Common.{◌++◌, ◌∙◌, Result, Ok, Err, IsSome, OnErr, take, sym, subst, arith, rules}
 use Rattle.std.proofs.lemmas.List.{length-take-le}
 use Rattle.b3_io.specs.Reading.{IsFilled}
 use Rattle.b3_io.proofs.ReadLemmas.{read_endless, read_more}
@@ -50,3 +50,9 @@ returns-in_err-count-clause-endless g c =
     let held = c.fills.invariant in
     on_fault c.from_residual.result _
     (read_endless held.read (λ is. c.in_err-count.ensures.endless (subst IsSome (sym held.told) is)))
+
+pub returns-then-count-buffer-clause-whole : goal.returns-then-count-buffer-clause-whole
+returns-then-count-buffer-clause-whole g c = search rules
+
+pub returns-then-count-buffer-clause-count : goal.returns-then-count-buffer-clause-count
+returns-then-count-buffer-clause-count g c = search rules
