@@ -144,13 +144,14 @@ fn standard_input_is_read_once(rt: HostRuntime) -> Result<(), AllocError> {
     )
 }
 
-// A list of a right line, a missing name and an empty line, and one that is empty.
+// A list of a right line, a missing name and an empty line, and one that is empty, beside an empty input.
 fn two_lists(alloc: Global) -> Result<MemoryShelf, AllocError>
     ensures { IfOk result (λ shelf. ⟦<MemoryShelf as Shelf>⟧.failures shelf ≡ 0) }
 {
     let mut shelf = MemoryShelf::new(alloc);
     shelf.put("x", b"\0")?;
     shelf.put("empty", b"")?;
+    shelf.put("-", b"")?;
     shelf.put(
         "l",
         b"2d3adedff11b61f14c886e35afa036736dcd87a74d27b5c1510225d0f592e213  x\n\
@@ -364,24 +365,16 @@ fn assert_cut_short<R: Abort + AllocGlobal + Threads + Wait + Clock + Sync, S: S
     Ok(())
 }
 
-fn assert_piped_cut_short<R: Abort + AllocGlobal + Threads + Wait + Clock + Sync>(
-    rt: &R,
-    words: &[&str],
-) -> Result<(), AllocError> {
-    let mut shelf = FileShelf::new(MemoryDisk::new(&[]), MemoryFile::new(b""));
-    assert_cut_short(rt, &mut shelf, words)
-}
-
 #[test]
 fn an_output_that_is_full(rt: HostRuntime) -> Result<(), AllocError> {
-    let rows: [&[&str]; 3] = [&[], &["--help"], &["--version"]];
-    for words in rows {
-        assert_piped_cut_short(&rt, words)?;
-    }
-    let mut shelf = two_lists(rt.alloc())?;
-    assert_cut_short(
-        &rt,
-        &mut shelf,
+    let rows: [&[&str]; 4] = [
+        &[],
+        &["--help"],
+        &["--version"],
         &["-c", "-w", "--ignore-missing", "--strict", "l"],
-    )
+    ];
+    for words in rows {
+        assert_cut_short(&rt, &mut two_lists(rt.alloc())?, words)?;
+    }
+    Ok(())
 }

@@ -7,8 +7,11 @@ use super::asserts::assert_that_for;
 use b3_files::NamedFile;
 use std::alloc::Allocator;
 use std::fs::{FileTimes, Metadata, OpenFile, OpenOptions, Permissions};
-use std::io::{self, ErrorKind, Read, Seek, SeekFrom, Write};
+use std::io::{self, ErrorKind, PipeReader, PipeWriter, Read, Seek, SeekFrom, Write};
+use std::os::fd::BorrowedFd;
 use std::os::unix::fs::FileExt;
+use std::os::unix::net::SocketAddr;
+use std::path::PathBuf;
 use std::process::Abort;
 use std::rt::Files;
 use std::sync::atomic::{AtomicU64, Ordering};
@@ -347,12 +350,28 @@ impl<'a, R: Abort> Files for FakeFiles<'a, R> {
         refuse(self.rt)
     }
 
+    fn create_dir_with_mode(&self, _path: &str, _mode: u32) -> io::Result<()> {
+        refuse(self.rt)
+    }
+
+    fn bind_unix(&self, _socket: BorrowedFd<'_>, _addr: &SocketAddr) -> io::Result<()> {
+        refuse(self.rt)
+    }
+
     fn remove_dir(&self, _path: &str) -> io::Result<()> {
         refuse(self.rt)
     }
 
     fn remove_dir_all<B: Allocator>(&self, _alloc: B, _path: &str) -> io::Result<()> {
         refuse(self.rt)
+    }
+
+    fn canonicalize<B: Allocator>(&self, _alloc: B, _path: &str) -> io::Result<PathBuf<B>> {
+        Err(io::Error::from(ErrorKind::Unsupported))
+    }
+
+    fn read_link<B: Allocator>(&self, _alloc: B, _path: &str) -> io::Result<PathBuf<B>> {
+        Err(io::Error::from(ErrorKind::Unsupported))
     }
 
     fn hard_link(&self, _original: &str, _link: &str) -> io::Result<()> {
@@ -364,6 +383,10 @@ impl<'a, R: Abort> Files for FakeFiles<'a, R> {
     }
 
     fn symlink(&self, _original: &str, _link: &str) -> io::Result<()> {
+        refuse(self.rt)
+    }
+
+    fn pipe(&self) -> io::Result<(PipeReader, PipeWriter)> {
         refuse(self.rt)
     }
 

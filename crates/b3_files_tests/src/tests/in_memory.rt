@@ -2,11 +2,11 @@
 
 use super::asserts::{assert_same, assert_that};
 use super::files::EMPTY;
-use super::steps::Asked;
 use super::steps::Step::{HashWhole, Lacks};
+use super::steps::assert_shelf;
 use crate::in_memory::sum_one;
 use b3_check::{MemorySink, NoContent};
-use b3_files::{FileShelf, MemoryDisk, MemoryFile, NamedFile};
+use b3_files::{MemoryDisk, MemoryFile, NamedFile};
 use std::test::Fail;
 
 const FILES: [NamedFile<'static>; 2] = [
@@ -22,19 +22,16 @@ const FILES: [NamedFile<'static>; 2] = [
 
 #[test]
 fn what_is_known_before_the_turn_of_a_name(rt: HostRuntime) {
-    let shelf = FileShelf::new(MemoryDisk::new(&FILES), MemoryFile::new(b""));
-    Asked::new(shelf).assert(
-        &rt,
-        &[
-            HashWhole("empty", 0, Some(EMPTY)),
-            HashWhole("abc", 2, None),
-            Lacks("abc", None),
-            HashWhole("gone", u64::MAX, None),
-            Lacks("gone", Some(NoContent::Missing)),
-            HashWhole("-", u64::MAX, None),
-            Lacks("-", None),
-        ],
-    );
+    let steps = [
+        HashWhole("empty", 0, Some(EMPTY)),
+        HashWhole("abc", 2, None),
+        Lacks("abc", None),
+        HashWhole("gone", u64::MAX, None),
+        Lacks("gone", Some(NoContent::Missing)),
+        HashWhole("-", u64::MAX, None),
+        Lacks("-", None),
+    ];
+    assert_shelf(&rt, MemoryDisk::new(&FILES), MemoryFile::new(b""), &steps);
 }
 
 #[test]

@@ -148,14 +148,22 @@ const SAID_OF_LISTED: [(&str, &str); 7] = [
 
 const LISTS: [&str; 3] = ["l", "gone", "l"];
 
-// What is said of each line of the list.
-const SAID_OF_LINES: [(&str, &str); 6] = [
+// What is said of each line of the list, twice, of the list that is not there, and at the end.
+const SAID_OF_LISTS: [(&str, &str); 14] = [
     ("a: OK\n", ""),
     ("", "b3sum: line 2: short line\n"),
     ("a: OK\n", ""),
     ("missing: FAILED (cannot read)\n", ""),
     ("empty: FAILED\n", ""),
     ("a: OK\n", ""),
+    ("", "b3sum: gone: cannot read\n"),
+    ("a: OK\n", ""),
+    ("", "b3sum: line 2: short line\n"),
+    ("a: OK\n", ""),
+    ("missing: FAILED (cannot read)\n", ""),
+    ("empty: FAILED\n", ""),
+    ("a: OK\n", ""),
+    ("", "b3sum: WARNING: 6 computed checksums did NOT match\n"),
 ];
 
 // Sums operands by two workers.
@@ -190,15 +198,15 @@ fn check<R: Abort + Threads + Wait + Sync, S: Shelf + Send + Sync, O: Sink, E: S
     rt: &R,
     alloc: Global,
     shelf: &mut S,
+    lists: Operands<'_>,
     out: &mut O,
     err: &mut E,
 ) -> Result<Tally, Fail>
     requires shelf { S.failures shelf.old < 2 ^ 63 }
+    requires lists { length (operands_left lists) ≤ 2 ^ 30 }
     requires out { O.failures out.old < 2 ^ 63 }
     requires err { E.failures err.old < 2 ^ 63 }
 {
-    let lists = strings(alloc, &LISTS)?;
-    assert_that(rt, lists.len() <= LISTS.len());
     let asked = CheckOptions {
         quiet: false,
         ignore_missing: false,
@@ -209,29 +217,55 @@ fn check<R: Abort + Threads + Wait + Sync, S: Shelf + Send + Sync, O: Sink, E: S
         turns: 1_000,
         largest: 1_000,
     };
-    let operands = Operands::given(&lists);
-    let answer = run_check(rt, alloc, shelf, operands, out, err, &asked, &OpenGate);
+    let answer = run_check(rt, alloc, shelf, lists, out, err, &asked, &OpenGate);
     Ok(answer?)
 }
 
-// Sums operands, of which so many are ok and failed, and both outputs were given this.
-fn assert_sums<R: Abort + Threads + Wait + Sync>(
+// What is done with operands.
+#[derive(Clone, Copy)]
+enum Work {
+    Sum,
+    Check,
+}
+
+fn run<R: Abort + Threads + Wait + Sync, S: Shelf + Send + Sync, O: Sink, E: Sink>(
     rt: &R,
     alloc: Global,
+    work: Work,
+    shelf: &mut S,
+    operands: Operands<'_>,
+    out: &mut O,
+    err: &mut E,
+) -> Result<Tally, Fail>
+    requires shelf { S.failures shelf.old < 2 ^ 63 }
+    requires operands { length (operands_left operands) ≤ 2 ^ 30 }
+    requires out { O.failures out.old < 2 ^ 63 }
+    requires err { E.failures err.old < 2 ^ 63 }
+{
+    match work {
+        Work::Sum => sum(rt, alloc, shelf, operands, out, err),
+        Work::Check => check(rt, alloc, shelf, operands, out, err),
+    }
+}
+
+// Sums or checks operands: so many are ok, failed, and lists that failed, and both outputs were given this.
+fn assert_said<R: Abort + Threads + Wait + Sync>(
+    rt: &R,
+    alloc: Global,
+    work: Work,
     operands: Operands<'_>,
     is_gathering: bool,
-    counts: (u64, u64),
+    counts: (u64, u64, u64),
     said: &[(&str, &str)],
 ) -> Result<(), Fail>
     requires { length (operands_left operands) ≤ 2 ^ 30 }
 {
-    assert_same(rt, operands.count_hint(), counts.0.wrapping_add(counts.1));
     let log = RefCell::new(Log::new(alloc));
     let mut out = OutputSink::new(Output::new(OUT, &log)).gathering(is_gathering);
     let mut err = OutputSink::new(Output::new(ERR, &log));
     let mut shelf = FileShelf::new(MemoryDisk::new(&FILES), MemoryFile::new(b"\0"));
-    let tally = sum(rt, alloc, &mut shelf, operands, &mut out, &mut err)?;
-    assert_same(rt, (tally.ok, tally.failed), counts);
+    let tally = run(rt, alloc, work, &mut shelf, operands, &mut out, &mut err)?;
+    assert_same(rt, (tally.ok, tally.failed, tally.lists), counts);
     let mut due = Log::new(alloc);
     due.add_items(said)?;
     let seen = log.into_inner();
@@ -247,7 +281,17 @@ fn lines_and_complaints_of_sums(rt: HostRuntime) -> Result<(), Fail> {
     assert_that(&rt, names.len() <= NAMES.len());
     for is_gathering in [false, true] {
         let operands = Operands::given(&names);
-        assert_sums(&rt, alloc, operands, is_gathering, (5, 4), &SAID_OF_NAMES)?;
+        assert_same(&rt, operands.count_hint(), 9);
+        let counts = (5, 4, 0);
+        assert_said(
+            &rt,
+            alloc,
+            Work::Sum,
+            operands,
+            is_gathering,
+            counts,
+            &SAID_OF_NAMES,
+        )?;
     }
     Ok(())
 }
@@ -257,12 +301,15 @@ fn lines_and_complaints_of_sums(rt: HostRuntime) -> Result<(), Fail> {
 fn lines_and_complaints_of_a_list_of_names(rt: HostRuntime) -> Result<(), Fail> {
     for is_gathering in [false, true] {
         let operands = Operands::in_list("names", LISTED);
-        assert_sums(
+        assert_same(&rt, operands.count_hint(), 7);
+        let counts = (3, 4, 0);
+        assert_said(
             &rt,
             rt.alloc(),
+            Work::Sum,
             operands,
             is_gathering,
-            (3, 4),
+            counts,
             &SAID_OF_LISTED,
         )?;
     }
@@ -270,29 +317,23 @@ fn lines_and_complaints_of_a_list_of_names(rt: HostRuntime) -> Result<(), Fail> 
 }
 
 // Verdicts wait for those after them, and a complaint of a line or of a list comes in its turn.
-fn assert_checks<R: Abort + Threads + Wait + Sync>(
-    rt: &R,
-    alloc: Global,
-    is_gathering: bool,
-) -> Result<(), Fail> {
-    let log = RefCell::new(Log::new(alloc));
-    let mut out = OutputSink::new(Output::new(OUT, &log)).gathering(is_gathering);
-    let mut err = OutputSink::new(Output::new(ERR, &log));
-    let mut shelf = FileShelf::new(MemoryDisk::new(&FILES), MemoryFile::new(b""));
-    let tally = check(rt, alloc, &mut shelf, &mut out, &mut err)?;
-    assert_that(rt, tally.ok == 6 && tally.lists == 1);
-    let mut due = Log::new(alloc);
-    due.add_items(&SAID_OF_LINES)?;
-    due.add(ERR, "b3sum: gone: cannot read\n")?;
-    due.add_items(&SAID_OF_LINES)?;
-    due.add(ERR, "b3sum: WARNING: 6 computed checksums did NOT match\n")?;
-    let seen = log.into_inner();
-    assert_same(rt, seen.text.as_str(), due.text.as_str());
-    Ok(())
-}
-
 #[test]
 fn verdicts_and_complaints_of_checks(rt: HostRuntime) -> Result<(), Fail> {
-    assert_checks(&rt, rt.alloc(), false)?;
-    assert_checks(&rt, rt.alloc(), true)
+    let alloc = rt.alloc();
+    let lists = strings(alloc, &LISTS)?;
+    assert_that(&rt, lists.len() <= LISTS.len());
+    for is_gathering in [false, true] {
+        let operands = Operands::given(&lists);
+        let counts = (6, 6, 1);
+        assert_said(
+            &rt,
+            alloc,
+            Work::Check,
+            operands,
+            is_gathering,
+            counts,
+            &SAID_OF_LISTS,
+        )?;
+    }
+    Ok(())
 }

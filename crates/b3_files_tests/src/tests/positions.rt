@@ -1,6 +1,6 @@
 // Where standard input stands after its plain file was read at offsets.
 
-ghost use Rattle.std.specs.Prelude.{◌^◌, ◌<◌};
+ghost use Rattle.std.specs.Prelude.{◌<◌};
 
 use super::asserts::{assert_same, assert_same_for, assert_that, assert_that_for};
 use super::files::counted;
@@ -141,20 +141,24 @@ fn assert_filled<S: Shelf>(
     Ok(())
 }
 
+// A shelf whose input is this one, at its beginning.
+fn begun<'a>(rt: &impl Abort, input: Endless<'a>) -> FileShelf<MemoryDisk<'a>, Endless<'a>> {
+    let mut shelf = FileShelf::new(MemoryDisk::new(&[]), input);
+    assert_that(rt, shelf.begin("-").is_ok());
+    shelf
+}
+
 #[test]
 fn each_read_moves_the_position_by_its_length(rt: HostRuntime) -> Result<(), Fail> {
     let content = counted(rt.alloc(), LEN)?;
     for offset in [0, 1, 49_999, 184_463, 184_464, 184_465, 250_000] {
         let moves = Moves::plain();
         let file = content.as_slice();
-        let mut shelf = FileShelf::new(
-            MemoryDisk::new(&[]),
-            Endless {
-                file,
-                moves: &moves,
-            },
-        );
-        assert_that(&rt, shelf.begin("-").is_ok());
+        let input = Endless {
+            file,
+            moves: &moves,
+        };
+        let shelf = begun(&rt, input);
         let mut due = 0u64;
         for len in LENS {
             assert_filled(&rt, rt.alloc(), &shelf, file, offset, len)?;
@@ -165,15 +169,8 @@ fn each_read_moves_the_position_by_its_length(rt: HostRuntime) -> Result<(), Fai
     Ok(())
 }
 
-// What a read of a shelf's input gives, at its beginning.
-fn given_by<S: Shelf>(
-    rt: &impl Abort,
-    alloc: Global,
-    shelf: &mut S,
-) -> Result<Option<usize>, AllocError>
-    requires { S.failures shelf.old < 2 ^ 63 }
-{
-    assert_that(rt, shelf.begin("-").is_ok());
+// What a read of a shelf's input gives.
+fn given_by<S: Shelf>(alloc: Global, shelf: &S) -> Result<Option<usize>, AllocError> {
     let mut buffer = Vec::new(alloc);
     buffer.resize(200_000, 0)?;
     Ok(shelf.read_at(0, buffer.as_mut_slice()))
@@ -191,8 +188,7 @@ fn read_failing_after(
         file,
         moves: &moves,
     };
-    let mut shelf = FileShelf::new(MemoryDisk::new(&[]), input);
-    let given = given_by(rt, alloc, &mut shelf)?;
+    let given = given_by(alloc, &begun(rt, input))?;
     Ok((given, moves.calls.load(Ordering::SeqCst)))
 }
 
@@ -266,8 +262,7 @@ fn read_parts<R: Threads + Abort + Sync>(
         file: content,
         moves,
     };
-    let mut shelf = FileShelf::new(MemoryDisk::new(&[]), input);
-    assert_that(rt, shelf.begin("-").is_ok());
+    let shelf = begun(rt, input);
     let mut parts = Vec::new(alloc);
     for len in lens {
         parts.push(vec![in alloc; 0u8; *len]?)?;

@@ -3,7 +3,8 @@
 ghost use Rattle.std.specs.Prelude.{◌≡◌, ◌≤◌};
 
 use super::asserts::{assert_same, assert_same_for, assert_that, assert_that_for};
-use super::fakes::{FakeFiles, SharedInput, System};
+use super::fakes::{FakeFiles, Reads, SharedInput, System};
+use super::inputs::NOT_SHOWN;
 use b3_check::{CannotRead, NoContent, Shelf};
 use b3_core::Mode;
 use b3_files::{Disk, FileShelf, Input, InputPaths, MemoryFile, RealDisk, RealInput};
@@ -11,6 +12,7 @@ use b3_hash::Hasher;
 use std::os::unix::fs::FileExt;
 use std::process::Abort;
 use std::rt::Files;
+use std::sync::atomic::AtomicU64;
 
 /// A call, and its answer.
 #[derive(Clone, Copy)]
@@ -134,8 +136,8 @@ impl<S: Shelf> Asked<S> {
     }
 }
 
-// Makes these calls of a shelf over this disk and this input.
-fn assert_shelf<D: Disk + Drop, I: Input + Drop>(
+/// Makes these calls of a shelf over this disk and this input.
+pub fn assert_shelf<D: Disk + Drop, I: Input + Drop>(
     rt: &impl Abort,
     disk: D,
     input: I,
@@ -159,17 +161,14 @@ where
     assert_shelf(rt, RealDisk::new(files), input, steps);
 }
 
-// The same, beside an input of these bytes.
-fn assert_beside_bytes<F: Files>(rt: &impl Abort, files: &F, input: &[u8], steps: &[Step<'_>])
-where
-    F::File: FileExt,
-{
-    assert_shelf(rt, RealDisk::new(files), MemoryFile::new(input), steps);
-}
-
 /// Makes these calls of a shelf of such files.
 pub fn assert_files<'x>(rt: &'x impl Abort, system: &'x System<'x>, steps: &[Step<'_>]) {
-    assert_beside_bytes(rt, &FakeFiles::new(rt, system), b"", steps);
+    let input = SharedInput {
+        content: b"",
+        offset: &AtomicU64::new(0),
+        reads: &Reads::plain(),
+    };
+    assert_input(rt, system, input, NOT_SHOWN, steps);
 }
 
 /// Makes these calls of a shelf of such files beside an input.
@@ -188,5 +187,5 @@ pub fn assert_real<R: Abort + Files>(rt: &R, steps: &[Step<'_>])
 where
     R::File: FileExt,
 {
-    assert_beside_bytes(rt, rt, b"four", steps);
+    assert_shelf(rt, RealDisk::new(rt), MemoryFile::new(b"four"), steps);
 }

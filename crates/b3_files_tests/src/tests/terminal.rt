@@ -3,11 +3,10 @@
 ghost use Rattle.std.specs.Prelude.{◌≡◌, ◌^◌, ◌<◌};
 
 use super::asserts::{assert_same, assert_that};
-use b3_check::{Shelf, Sink, write_all};
-use b3_files::{
-    ClearingSink, CountingShelf, FileShelf, MemoryDisk, MemoryFile, NamedFile, OutputSink,
-};
+use b3_check::{MemoryShelf, Shelf, Sink, write_all};
+use b3_files::{ClearingSink, CountingShelf, OutputSink};
 use b3_progress::Progress;
+use std::alloc::{AllocError, Global};
 use std::io::{self, ErrorKind, Write};
 use std::process::Abort;
 use std::rt::Clock;
@@ -20,11 +19,6 @@ use std::time::Duration;
 const SHOWN: char = '<';
 
 const ERASED: char = '>';
-
-const FILES: [NamedFile<'static>; 1] = [NamedFile {
-    name: "a",
-    content: b"four",
-}];
 
 // A clock that goes on by a second each time that it is read: a line is due whenever a byte is counted.
 #[derive(Drop)]
@@ -133,42 +127,6 @@ fn write_two_lines<S: Shelf, K: Sink>(rt: &impl Abort, shelf: &S, sink: &mut K)
     count_byte(shelf);
 }
 
-// The same, where the output stands on the terminal of the line of progress.
-fn write_on_terminal<R: Abort + Wait, S: Shelf, C: Clock, W: Write>(
-    rt: &R,
-    record: &Mutex<String>,
-    shelf: &S,
-    progress: &Progress<C, W>,
-) {
-    let output = OutputSink::new(Slow { record, shelf });
-    let mut sink = ClearingSink::new(rt, output, true, progress);
-    write_two_lines(rt, shelf, &mut sink);
-}
-
-fn assert_record(rt: &impl Abort, record: &Mutex<String>, wanted: &str) {
-    let Some(text) = record.try_lock() else {
-        assert!(rt; false, "it is still written");
-        return;
-    };
-    assert_same(rt, text.as_str(), wanted);
-}
-
-#[test]
-fn a_line_comes_between_those_of_an_output(rt: HostRuntime) {
-    let alloc = rt.alloc();
-    let written = Mutex::new(String::new(alloc));
-    let line = Line { record: &written };
-    let progress = Progress::new(alloc, FastClock::new(), line, true);
-    progress.show_if(true);
-    let files = FileShelf::new(MemoryDisk::new(&FILES), MemoryFile::new(b""));
-    let mut shelf = CountingShelf::new(alloc, files, &progress);
-    assert_same(&rt, shelf.begin("a"), Ok(()));
-    write_on_terminal(&rt, &written, &shelf, &progress);
-    progress.clear(&rt);
-    progress.clear(&rt);
-    assert_record(&rt, &written, "<>line\n<<>b\n<>");
-}
-
 // How many lines are written.
 const LINES: usize = 300;
 
@@ -205,6 +163,62 @@ fn write_beside<R: Threads + Abort + Sync, S: Shelf + Sync, K: Sink>(
     );
 }
 
+// Writes to an output on the terminal of the line of progress, beside a thread that counts or without one.
+fn write_on_terminal<R: Threads + Wait + Abort + Sync, S: Shelf + Sync, C: Clock, W: Write>(
+    rt: &R,
+    record: &Mutex<String>,
+    shelf: &S,
+    progress: &Progress<C, W>,
+    is_beside: bool,
+) {
+    let output = OutputSink::new(Slow { record, shelf });
+    let mut sink = ClearingSink::new(rt, output, true, progress);
+    if !is_beside {
+        write_two_lines(rt, shelf, &mut sink);
+        return;
+    }
+    let mut output = Whole { sink };
+    write_beside(rt, shelf, &mut output);
+    output.write(rt, "line\n");
+}
+
+// Counts a file of four bytes, and writes to an output on the terminal of its line of progress.
+fn count_and_write<R: Threads + Wait + Abort + Sync>(
+    rt: &R,
+    alloc: Global,
+    record: &Mutex<String>,
+    is_beside: bool,
+) -> Result<(), AllocError> {
+    let progress = Progress::new(alloc, FastClock::new(), Line { record }, true);
+    progress.show_if(true);
+    let mut files = MemoryShelf::new(alloc);
+    files.put("a", b"four")?;
+    let mut shelf = CountingShelf::new(alloc, files, &progress);
+    assert_same(rt, shelf.begin("a"), Ok(()));
+    write_on_terminal(rt, record, &shelf, &progress, is_beside);
+    if !is_beside {
+        progress.clear(rt);
+        progress.clear(rt);
+    }
+    Ok(())
+}
+
+fn assert_record(rt: &impl Abort, record: &Mutex<String>, wanted: &str) {
+    let Some(text) = record.try_lock() else {
+        assert!(rt; false, "it is still written");
+        return;
+    };
+    assert_same(rt, text.as_str(), wanted);
+}
+
+#[test]
+fn a_line_comes_between_those_of_an_output(rt: HostRuntime) -> Result<(), AllocError> {
+    let written = Mutex::new(String::new(rt.alloc()));
+    count_and_write(&rt, rt.alloc(), &written, false)?;
+    assert_record(&rt, &written, "<>line\n<<>b\n<>");
+    Ok(())
+}
+
 // Each line of the output stands whole, and those of progress before it were erased.
 fn assert_whole(rt: &impl Abort, written: &Mutex<String>) {
     let Some(written) = written.try_lock() else {
@@ -220,31 +234,10 @@ fn assert_whole(rt: &impl Abort, written: &Mutex<String>) {
     }
 }
 
-// Lines on the terminal of the line of progress, while another thread counts, and one after it.
-fn write_lines_on_terminal<R: Threads + Wait + Abort + Sync, S: Shelf + Sync, C: Clock, W: Write>(
-    rt: &R,
-    record: &Mutex<String>,
-    shelf: &S,
-    progress: &Progress<C, W>,
-) {
-    let sink = OutputSink::new(Slow { record, shelf });
-    let mut output = Whole {
-        sink: ClearingSink::new(rt, sink, true, progress),
-    };
-    write_beside(rt, shelf, &mut output);
-    output.write(rt, "line\n");
-}
-
 #[test]
-fn a_thread_counts_while_an_output_writes(rt: HostRuntime) {
-    let alloc = rt.alloc();
-    let written = Mutex::new(String::new(alloc));
-    let line = Line { record: &written };
-    let progress = Progress::new(alloc, FastClock::new(), line, true);
-    progress.show_if(true);
-    let files = FileShelf::new(MemoryDisk::new(&FILES), MemoryFile::new(b""));
-    let mut shelf = CountingShelf::new(alloc, files, &progress);
-    assert_same(&rt, shelf.begin("a"), Ok(()));
-    write_lines_on_terminal(&rt, &written, &shelf, &progress);
+fn a_thread_counts_while_an_output_writes(rt: HostRuntime) -> Result<(), AllocError> {
+    let written = Mutex::new(String::new(rt.alloc()));
+    count_and_write(&rt, rt.alloc(), &written, true)?;
     assert_whole(&rt, &written);
+    Ok(())
 }
