@@ -72,6 +72,35 @@ fn assert_bounds(rt: &impl Abort, workers: u32, turns: u64, largest: u64)
     assert_that(rt, largest <= 1_000_000);
 }
 
+// Sums names into these sinks, behind a gate.
+fn sum_into_behind<
+    R: Abort + Threads + Wait + Sync,
+    S: Shelf + Send + Sync,
+    O: Sink,
+    E: Sink,
+    G: Gate + Sync,
+>(
+    rt: &R,
+    alloc: Global,
+    shelf: &mut S,
+    names: &[String],
+    out: &mut O,
+    err: &mut E,
+    options: &SumOptions,
+    gate: &G,
+) -> Result<Tally, RunFault>
+    requires shelf { S.failures shelf.old < 2 ^ 63 }
+    requires out { O.failures out.old < 2 ^ 63 }
+    requires err { E.failures err.old < 2 ^ 63 }
+{
+    assert_that(rt, names.len() <= 10_000);
+    assert_that(rt, !(options.form == Form::Raw && names.len() != 1));
+    assert_that(rt, options.length <= 1_048_576 && options.seek <= 1_000);
+    assert_bounds(rt, options.workers, options.turns, options.largest);
+    let operands = Operands::given(names);
+    run_sum(rt, alloc, shelf, operands, out, err, options, gate)
+}
+
 /// Sums names into these sinks.
 pub fn sum_into<R: Abort + Threads + Wait + Sync, S: Shelf + Send + Sync, O: Sink, E: Sink>(
     rt: &R,
@@ -86,20 +115,7 @@ pub fn sum_into<R: Abort + Threads + Wait + Sync, S: Shelf + Send + Sync, O: Sin
     requires out { O.failures out.old < 2 ^ 63 }
     requires err { E.failures err.old < 2 ^ 63 }
 {
-    assert_that(rt, names.len() <= 10_000);
-    assert_that(rt, !(options.form == Form::Raw && names.len() != 1));
-    assert_that(rt, options.length <= 1_048_576 && options.seek <= 1_000);
-    assert_bounds(rt, options.workers, options.turns, options.largest);
-    run_sum(
-        rt,
-        alloc,
-        shelf,
-        Operands::given(names),
-        out,
-        err,
-        options,
-        &OpenGate,
-    )
+    sum_into_behind(rt, alloc, shelf, names, out, err, options, &OpenGate)
 }
 
 /// Sums names of a shelf.
@@ -133,16 +149,35 @@ pub fn sum_behind<R: Abort + Threads + Wait + Sync, S: Shelf + Send + Sync, G: G
     let names = strings(alloc, &[name])?;
     let mut out = MemorySink::new(alloc);
     let mut err = MemorySink::new(alloc);
-    assert_that(
-        rt,
-        names.len() == 1 && options.length == 32 && options.seek == 0,
-    );
-    assert_bounds(rt, options.workers, options.turns, options.largest);
-    let operands = Operands::given(&names);
-    let answer = run_sum(
-        rt, alloc, shelf, operands, &mut out, &mut err, options, gate,
-    );
+    let answer = sum_into_behind(rt, alloc, shelf, &names, &mut out, &mut err, options, gate);
     ended_of(alloc, answer, &out, &err)
+}
+
+// Checks lists, and writes into these sinks, behind a gate.
+fn check_into_behind<
+    R: Abort + Threads + Wait + Sync,
+    S: Shelf + Send + Sync,
+    O: Sink,
+    E: Sink,
+    G: Gate + Sync,
+>(
+    rt: &R,
+    alloc: Global,
+    shelf: &mut S,
+    lists: &[String],
+    out: &mut O,
+    err: &mut E,
+    options: &CheckOptions,
+    gate: &G,
+) -> Result<Tally, RunFault>
+    requires shelf { S.failures shelf.old < 2 ^ 63 }
+    requires out { O.failures out.old < 2 ^ 63 }
+    requires err { E.failures err.old < 2 ^ 63 }
+{
+    assert_that(rt, lists.len() <= 10_000);
+    assert_bounds(rt, options.workers, options.turns, options.largest);
+    let operands = Operands::given(lists);
+    run_check(rt, alloc, shelf, operands, out, err, options, gate)
 }
 
 /// Checks lists, and writes into these sinks.
@@ -159,18 +194,7 @@ pub fn check_into<R: Abort + Threads + Wait + Sync, S: Shelf + Send + Sync, O: S
     requires out { O.failures out.old < 2 ^ 63 }
     requires err { E.failures err.old < 2 ^ 63 }
 {
-    assert_that(rt, lists.len() <= 10_000);
-    assert_bounds(rt, options.workers, options.turns, options.largest);
-    run_check(
-        rt,
-        alloc,
-        shelf,
-        Operands::given(lists),
-        out,
-        err,
-        options,
-        &OpenGate,
-    )
+    check_into_behind(rt, alloc, shelf, lists, out, err, options, &OpenGate)
 }
 
 /// Checks lists of a shelf.
@@ -203,12 +227,7 @@ pub fn check_behind<R: Abort + Threads + Wait + Sync, S: Shelf + Send + Sync, G:
     let lists = strings(alloc, &["l"])?;
     let mut out = MemorySink::new(alloc);
     let mut err = MemorySink::new(alloc);
-    assert_that(rt, lists.len() == 1);
-    assert_bounds(rt, options.workers, options.turns, options.largest);
-    let operands = Operands::given(&lists);
-    let answer = run_check(
-        rt, alloc, shelf, operands, &mut out, &mut err, options, gate,
-    );
+    let answer = check_into_behind(rt, alloc, shelf, &lists, &mut out, &mut err, options, gate);
     ended_of(alloc, answer, &out, &err)
 }
 
