@@ -1,3 +1,4 @@
+use Rattle.std.proofs.Common.{rules}
 use Rattle.std.specs.Fork.{AcceptsAt, ChangesAt}
 use Rattle.b3_board.proofs.ThreadParts.{all_first, all_rest, changes_both}
 use Rattle.b3_board.proofs.threads.+chain.Goals as goal
@@ -20,3 +21,6 @@ all_from-returns g t c =
     changes_both (ChangesAt g.F.Fn c.args.f.now) c.args.base c.args.s.now cut.result.0.now cut.result.1.now
     c.one_beside_rest.new.first c.one_beside_rest.new.rest cut.ensures.value cut.ensures.front_len
     c.one_beside_rest.ensures.first c.one_beside_rest.ensures.rest
+
+pub one_beside_rest-join_mut-requires-after_bounds : goal.one_beside_rest-join_mut-requires-after_bounds
+one_beside_rest-join_mut-requires-after_bounds g c = search rules

@@ -1,4 +1,5 @@
-use Rattle.std.proofs.Common.{◌⊎◌, ◌<◌, ◌≤◌, ◌∙◌, Result, Ok, Err, IsSome, length, sym, subst, inl}
+use Rattle.std.proofs.Common.{◌⊎◌, ◌<◌, ◌≤◌, ◌∙◌, Result, Ok, Err, IsSome, length, sym, subst, inl, arith}
+use Rattle.std.proofs.lemmas.Grind.{common_steps}
 use Rattle.std.specs.Prelude.{IfErr, IsErrAnd}
 use Rattle.b3_io.specs.declared.fault.RunFault.{RunFault}
 use Rattle.b3_io.specs.Reading.{IsFaultOfRest}
@@ -24,3 +25,6 @@ returns-in_err-count-clause-fault g c =
     (sym (is ∙ c.in_err-count.ensures.fault))
     (rest_where told left (λ content. (limits.turns ≤ length content) ⊎ (limits.largest < length content))
     (λ is. inl (endless is))))
+
+pub fills-preserved : goal.fills-preserved
+fills-preserved g c = grind (arith, common_steps)

@@ -1,4 +1,5 @@
 use Rattle.std.proofs.Common.{refl, inl, arith}
+use Rattle.std.proofs.lemmas.Grind.{common_steps}
 use Rattle.std.proofs.lemmas.Result.{err_from_is_err_and}
 use Rattle.b3_io.proofs.RunLemmas.{broke_err, not_asked}
 use Rattle.b3_io.proofs.saying.say_after.Goals as goal
@@ -16,3 +17,6 @@ returns-in_err-write_all-2 g c =
           c.in_err-write_all-2.ensures.count p.2,
       inl p.2,
     )
+
+pub returns-then-may_wait : goal.returns-then-may_wait
+returns-then-may_wait g c = grind (arith, common_steps)
