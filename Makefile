@@ -4,10 +4,11 @@
 #                   /usr/local; make uninstall removes them
 # make lib          proves the hasher, and builds it as a C library, libb3.a and libb3.so, for this processor or CPU
 # make install-lib  installs the library, its header and b3.pc below PREFIX
-# make check        proves what changed since its last run, over the proofs that it keeps, runs the tests of that, and builds
-#                   ./b3sum: for who changes something, as make proves whole crates anew
+# make check        proves what changed since its last run, over the proofs that it keeps, runs the tests of that, builds
+#                   ./b3sum, and runs the quick rows of faults on it: for who changes something, as make proves whole
+#                   crates anew
 # make test         is the gate: all proofs, the must-fail edits, all tests and the stored run; and on the program that it
-#                   built a shorter soak, and compare with a plain b3sum in Python
+#                   built a shorter soak, compare with a plain b3sum in Python, and the quick rows of faults
 #
 # Beside the gate, over what is built:
 # make compare      runs the program beside the installed b3sum, on the same inputs, trees and lists

@@ -88,8 +88,10 @@ def files_of_every_kind(faults):
     faults.row("the empty device", ["/dev/null"], f"{Z0}  /dev/null\n")
     faults.row("input twice", ["-", "-"], f"{Z1}  -\n", "b3sum: -: cannot read\n", 1, input=b"\0")
     faults.row("no file means input", ["--no-names"], f"{Z0}\n")
-    with open("large", "wb") as large:
-        large.truncate(LARGEST + 1)
+
+
+def large_files(faults):
+    """Files, and a list, of more bytes than a list may have, than 32 bits count, and than there is memory."""
     with open("huge", "wb") as huge:
         huge.truncate(HUGE_LEN)
     faults.row("a file of more bytes than 32 bits count", ["huge"], f"{HUGE}  huge\n")

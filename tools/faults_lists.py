@@ -19,6 +19,12 @@ def lists(faults):
     faults.row("good, changed and short, quietly", ["-c", "--quiet"], "y: FAILED\n", said, 1, input=three)
     both = f"BLAKE3 (e) = {Z0}\n{Z0}  e\nBLAKE3 (x) = {Z0.upper()}\n{Z1}  x\n".encode()
     faults.row("both forms in one list", ["-c"], "e: OK\ne: OK\nx: FAILED\nx: OK\n", warning(1), 1, input=both)
+    Path("a\\b").touch()
+    both = (f"BLAKE3 (y) = {Z0}\r\n{Z0}  y\n\\BLAKE3 (a\\\\b) = {Z0}\n\\BLAKE3 (a\\\\b) = {Z1}\nBLAKE3 (x) = {Z1}\n"
+            f"BLAKE3 (none) = {Z1}\nBLAKE3 (x] = {Z1}\nBLAKE3 (\n").encode()
+    faults.row("both forms, good, changed, missing and malformed", ["-c"],
+               "y: OK\ny: OK\n\\a\\\\b: OK\n\\a\\\\b: FAILED\nx: OK\nnone: FAILED (cannot read)\n",
+               "b3sum: line 7: missing spaces\nb3sum: line 8: short line\n" + warning(4), 1, input=both)
     faults.row("an empty list", ["-c"])
     faults.row("digits in upper case", ["-c"], "e: OK\n", input=f"{Z0.upper()}  e\n".encode())
     faults.row("a mark with no escape", ["-c"], "\\e: OK\n", input=f"\\{Z0}  e\n".encode())
@@ -40,6 +46,43 @@ def lists(faults):
     faults.row("a list of 100,000 lines, with few descriptors", ["-c"], "e: OK\n" * many, input=text, preexec_fn=few)
     said = "".join(f"b3sum: line {number}: empty line\n" for number in range(1, many + 1)) + warning(many)
     faults.row("100,000 bad lines", ["-c"], "", said, 1, input=b"\n" * many)
+
+
+# What stands before and after the digits of a line that is taken, and its name as it is shown.
+TAKEN = ((b"", b"   ", " "), (b"", b"  x\r", "x"), (b"", b"  x\r\r", "x\r"), (b"\\", b"  ab", "\\ab"),
+         (b"", b"  a\\nb", "a\\nb"), (b"\\", b"  a\\nb", "\\a\\nb"),
+         (b"\\", "  \u00e9\\\\\\r\u20ac".encode(), "\\\u00e9\\\\\\r\u20ac"),
+         (b"BLAKE3 (-) = ", b"", "-"), (b"BLAKE3 (-) = ", b"\r", "-"), (b"BLAKE3 ()) = ", b"", ")"),
+         (b"BLAKE3 ( ) = ", b"", " "), (b"BLAKE3 (a) = b) = ", b"", "a) = b"), (b"BLAKE3 (a\\nb) = ", b"", "a\\nb"),
+         (b"\\BLAKE3 (ab) = ", b"", "\\ab"),
+         ("\\BLAKE3 (\u00e9\\\\\\r\u20ac) = ".encode(), b"", "\\\u00e9\\\\\\r\u20ac"))
+# What stands around those of a line that is refused, by the reason.
+REFUSED = {
+    "short line": ((b"", b" "), (b"\\", b" "), (b"BLAKE3 () =", b""), (b"\\BLAKE3 () =", b""), (b"BLAKE3 (", b"")),
+    "no name": ((b"", b"  "), (b"\\", b"  "), (b"", b"  \r"), (b"BLAKE3 () = ", b""), (b"\\BLAKE3 () = ", b"")),
+    "missing spaces": ((b"", b" xy"), (b"BLAKE3 (x] = ", b""), (b"BLAKE3 (x)= ", b""), (b"BLAKE3 (x) =", b""),
+                       (b"BLAKE3 (x) =  ", b"")),
+    "bad digits": ((b"g", b"  x"), (b"blake3 (x) = ", b""), (b"BLAKE3(x) = ", b""), (b" BLAKE3 (x) = ", b""),
+                   (b"BLAKE2 (x) = ", b""), (b"BLAKE3 (x) = ", b" "), (b"BLAKE3 (x) = ", b"g")),
+    "bad escape": ((b"\\", b"  a\\q"), (b"\\", b"  \\q\0"), (b"\\BLAKE3 (a\\qb) = ", b""), (b"\\BLAKE3 (a\\) = ", b""),
+                   (b"\\BLAKE3 (\0\\q) = ", b"")),
+    "bad character": ((b"", b"  x\0"), (b"", b"  x\xef\xbf\xbdy"), (b"BLAKE3 (x\0) = ", b""),
+                      (b"BLAKE3 (x\xef\xbf\xbd) = ", b""))}
+
+
+def lines_by_their_bytes(faults):
+    """What stands around the digits of a line, where no file has any of the names."""
+    os.mkdir("bare")
+    os.chdir("bare")
+    for before, after, name in TAKEN:
+        line = before + Z0.encode() + after
+        faults.row(f"the line {line!r}", ["-c"], f"{name}: FAILED (cannot read)\n", warning(1), 1, input=line)
+    whole = [(b"\r\n", "empty line"), (b"\xff", "not text"), (b"\\", "short line"), (b"BLAKE3 (", "short line"),
+             (f"g{Z0[1:]}  x".encode(), "bad digits")]
+    refused = [(before + Z0.encode() + after, reason) for reason, rows in REFUSED.items() for before, after in rows]
+    for line, reason in whole + refused:
+        faults.row(f"the line {line!r}", ["-c"], "", f"b3sum: line 1: {reason}\n" + warning(1), 1, input=line)
+    os.chdir("..")
 
 
 def malformed_lines(faults):
@@ -132,6 +175,38 @@ def strict_and_silent_checks(faults):
     with open("/dev/full", "wb") as full:
         faults.row("the status alone, onto a full device", ["-c", "--status", "good"], stdout=full)
     faults.row("the status alone, and a run fault", ["-c", "--status", "large"], err="b3sum: endless input\n", status=1)
+
+
+def each_text_where_it_is_due(faults):
+    """Lists that fail in each way, with the words that say what is passed over, what is strict and what is told."""
+    empty, short, none = "line 1: empty line\n", "line 1: short line\n", "no check line found\n"
+    right, wrong, gone = f"{Z1}  x\n", f"{Z0}  x\n", f"{Z0}  gone\n"
+    for name, text in {"x": "\0", "m\n": f"{gone}\n", "d": wrong + gone, "lineless": "", "blank": "\n", "late": f"\n{gone}",
+                       "a\\b": "x\n", "all": f"{right}{wrong}{gone}no line\n"}.items():
+        Path(name).write_text(text)
+    unread, all_said = "gone: FAILED (cannot read)\n", "b3sum: line 4: short line\nb3sum: missing: cannot read\n"
+    for words, out, err in (
+            (["--ignore-missing", "m\n", "d"], "x: FAILED\n",
+             "b3sum: line 2: empty line\nb3sum: \\m\\n: no file was verified\n" + warning(2)),
+            (["--strict", "lineless", "blank", "late"], unread,
+             f"b3sum: lineless: {none}b3sum: {empty}b3sum: blank: {none}b3sum: {empty}{warning(3)}"),
+            (["blank", "a\\b"], "", f"b3sum: {empty}b3sum: {short}{warning(2)}"),
+            (["-w", "blank", "a\\b"], "", f"b3sum: blank: {empty}b3sum: \\a\\\\b: {short}{warning(2)}"),
+            (["--strict", "all", "missing"], f"x: OK\nx: FAILED\n{unread}", all_said + warning(3)),
+            (["--quiet", "all", "missing"], f"x: FAILED\n{unread}", all_said + warning(3)),
+            (["--strict", "--status", "all", "missing"], "", "")):
+        faults.row(f"a check of {words}", ["-c", *words], out, err, 1)
+
+
+def checks_with_all_words(faults):
+    """A list of a right line, a missing name and an empty line, and a list that is empty."""
+    Path("x").write_bytes(b"\0")
+    Path("l").write_text(f"{Z1}  x\n{Z1}  none\n\n")
+    said = ("b3sum: l: line 3: empty line\nb3sum: e: no file was verified\nb3sum: e: no check line found\n" + warning(1))
+    words = ["--ignore-missing", "--strict", "l", "e"]
+    faults.row("a check with all its words", ["-c", "-w", *words], "x: OK\n", said, 1)
+    faults.row("a check with all its words, quietly", ["-c", "-w", "--quiet", *words], "", said, 1)
+    faults.row("a check with all its words, the status alone", ["-c", "--status", *words], status=1)
 
 
 def truncated_lists(faults):

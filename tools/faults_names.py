@@ -35,17 +35,25 @@ def lists_of_names(faults):
         for name in ("names", "-"):
             faults.row(f"the names {names!r} in {name}", ["--files0-from", name], *said_of(names, name), input=names)
     faults.row("a line feed in a name", ["--files0-from", "-"], "", "b3sum: \\e\\n: cannot read\n", 1, input=b"e\n")
-    faults.row("input in a list from input", ["--files0-from", "-"], f"{Z0}  e\n", "b3sum: -: cannot read\n", 1,
-               input=b"-\0e")
+    Path("names").write_bytes(b"p\0e\n\0e")
+    faults.row("missing names, one with a line feed, before one that is there", ["--files0-from", "names"], f"{Z0}  e\n",
+               "b3sum: p: cannot read\nb3sum: \\e\\n: cannot read\n", 1)
+    for given in (b"-\0e", b"e\0-\0"):
+        faults.row(f"input in a list from input, {given!r}", ["--files0-from", "-"], f"{Z0}  e\n",
+                   "b3sum: -: cannot read\n", 1, input=given)
     Path("names").write_bytes(b"-")
     faults.row("input in a list from a file", ["--files0-from", "names"], f"{Z0}  -\n", input=b"")
     checks = b"good\0\xff\0missing\0\0good"
     said = "b3sum: -: name 2 is not text\nb3sum: missing: cannot read\nb3sum: : cannot read\n"
     faults.row("lists to check", ["-c", "--files0-from", "-"], "e: OK\ne: OK\n", said, 1, input=checks)
     faults.row("lists to check, the status alone", ["-c", "--status", "--files0-from", "-"], status=1, input=checks)
+    for given, status in ((b"", 0), (b"\xff", 1)):
+        faults.row(f"the lists {given!r} to check, the status alone", ["-c", "--status", "--files0-from", "-"],
+                   status=status, input=given)
+    faults.row("no lists to check", ["-c", "--files0-from", "-"])
     for name in ("missing", "folder", "", "large"):
         why = "b3sum: endless input\n" if name == "large" else f"b3sum: {name}: cannot read\n"
-        for words in ([], ["-c", "--status"]):
+        for words in ([], ["--raw"], ["-c"], ["-c", "--status"]):
             faults.row(f"{' '.join(words)} names from {name!r}", [*words, "--files0-from", name], err=why, status=1)
     Path("names").write_bytes(b"e\0-\0")
     faults.row("a key, and input in the list", ["--keyed", "--files0-from", "names"], "", "b3sum: --keyed needs files\n",
@@ -54,7 +62,7 @@ def lists_of_names(faults):
     Path("names").write_bytes(b"e")
     faults.row("a key, and a list", ["--keyed", "--files0-from", "names"], f"{KEYED_Z0}  e\n", input=KEY)
     faults.row("raw, and one name", ["--raw", "--files0-from", "names"], bytes.fromhex(Z0))
-    many_names(faults)
+    faults.row("raw, and no name", ["--raw", "--files0-from", "-"])
 
 
 def many_names(faults):

@@ -122,48 +122,55 @@ def run(faults, words, **streams):
     return ended.stdout, screen.written, ended.returncode, seconds
 
 
-def progress(faults):
-    """What is on the screen at the end is what is there without the line."""
+def row(faults, name, words, out="", said="", status=0, is_shown=True, **streams):
+    """A run whose error output is a terminal: what is on the screen at its end is what is there without the line. Returns
+    the lines that were shown."""
+    got, written, ended, seconds = run(faults, words, **streams)
+    screen = "\n".join(rows_after(written))
+    faults.compare(name, (got, screen.encode(), ended), (out, said, status))
+    if is_shown:
+        return shown_lines(faults, name, written, seconds)
+    faults.compare(f"{name}: no line", (None, None, DRAWN.findall(written.decode())), ("", "", []))
+    return []
 
-    def row(name, words, out="", said="", status=0, is_shown=True, **streams):
-        got, written, ended, seconds = run(faults, words, **streams)
-        screen = "\n".join(rows_after(written))
-        faults.compare(name, (got, screen.encode(), ended), (out, said, status))
-        if is_shown:
-            return shown_lines(faults, name, written, seconds)
-        faults.compare(f"{name}: no line", (None, None, DRAWN.findall(written.decode())), ("", "", []))
-        return []
 
+def progress_where_it_is_wanted(faults):
+    """A run that lasts shows it if it was asked to, writes on a terminal, and does not tell by its status alone."""
     unread, sums = "b3sum: missing: cannot read\n", f"{Z1025}  slow\n"
     Path("of-slow").write_text(f"{Z1025}  slow\n{Z0}  z\n")
     with fed_slowly("slow"):
-        lines = row("progress of a FIFO", ["--progress", "e", "missing", "slow"], f"{Z0}  e\n{sums}", unread, 1)
+        lines = row(faults, "progress of a FIFO", ["--progress", "e", "missing", "slow"], f"{Z0}  e\n{sums}", unread, 1)
     faults.compare("progress of a FIFO: names", (None, None, names_in(lines)), ("", "", {"2 of 3: slow"}))
     with fed_slowly("slow"):
-        row("progress with both outputs on the terminal", ["--progress", "e", "slow", "missing", "e"], None,
-            f"{Z0}  e\n{sums}{unread}{Z0}  e\n", 1, stdout="terminal")
-    with fed_slowly("slow"):
-        lines = row("progress of a check", ["-c", "--progress", "of-slow"], "slow: OK\nz: FAILED\n", warning(1), 1)
+        lines = row(faults, "progress of a check", ["-c", "--progress", "of-slow"], "slow: OK\nz: FAILED\n", warning(1), 1)
     faults.compare("progress of a check: names", (None, None, names_in(lines)), ("", "", {"1 of 2: slow"}))
+    for words, out, status in ((["slow"], sums, 0), (["-c", "--status", "--progress", "of-slow"], "", 1)):
+        with fed_slowly("slow"):
+            row(faults, f"no progress: {' '.join(words)}", words, out, "", status, is_shown=False)
+    with fed_slowly("slow"):
+        faults.row("no progress without a terminal", ["--progress", "slow"], sums)
+
+
+def progress(faults):
+    """Names of every kind, and outputs beside it."""
+    unread, sums = "b3sum: missing: cannot read\n", f"{Z1025}  slow\n"
+    with fed_slowly("slow"):
+        row(faults, "progress with both outputs on the terminal", ["--progress", "e", "slow", "missing", "e"], None,
+            f"{Z0}  e\n{sums}{unread}{Z0}  e\n", 1, stdout="terminal")
     wide = "漢字" * 40
     with fed_slowly(wide):
-        row("progress of a name in wide characters", ["--progress", wide], f"{Z1025}  {wide}\n")
-    with fed_slowly("line\nfeed\x1b[2J"):
-        lines = row("progress of a name that moves the cursor", ["--progress", "--no-names", "line\nfeed\x1b[2J"],
-                    f"{Z1025}\n")
+        row(faults, "progress of a name in wide characters", ["--progress", wide], f"{Z1025}  {wide}\n")
+    name = "line\nfeed\x1b[2J"
+    with fed_slowly(name):
+        lines = row(faults, "progress of a name that moves the cursor", ["--progress", "--no-names", name], f"{Z1025}\n")
     seen = [line.split(": ")[-1] for line in lines[:1]]
     faults.compare("progress of a name that moves the cursor: the name", (None, None, seen),
                    ("", "", ["line?feed?[2J"]))
     full = open("/dev/full", "wb")
     with fed_slowly("slow"):
-        row("progress before a fault", ["--progress", "slow", "e"], None, CANNOT_WRITE, 1, stdout=full)
+        row(faults, "progress before a fault", ["--progress", "slow", "e"], None, CANNOT_WRITE, 1, stdout=full)
     full.close()
-    for words, out, status in ((["slow"], sums, 0), (["-c", "--status", "--progress", "of-slow"], "", 1)):
-        with fed_slowly("slow"):
-            row(f"no progress: {' '.join(words)}", words, out, "", status, is_shown=False)
-    with fed_slowly("slow"):
-        faults.row("no progress without a terminal", ["--progress", "slow"], sums)
-    row("no progress of a short run", ["--progress", "e", "z"], f"{Z0}  e\n{Z1}  z\n", is_shown=False)
+    row(faults, "no progress of a short run", ["--progress", "e", "z"], f"{Z0}  e\n{Z1}  z\n", is_shown=False)
 
 
 def progress_among_lines(faults):

@@ -6,7 +6,8 @@ import subprocess
 from pathlib import Path
 
 from blake3 import Tree, digest
-from faults_rows import PATTERN, Z0, Z1, warning
+from faults_progress import run
+from faults_rows import PATTERN, Z0, Z1, shown, warning
 
 DISTURBER = Path(__file__).resolve().parent / "disturb.c"
 # Lengths of one block, of a chunk and a byte, of two reads in order, and of spans that workers read.
@@ -123,25 +124,37 @@ def a_folder_of_odd_names(faults):
     os.chdir("..")
 
 
-def shown(name):
-    escaped = name.replace("\\", "\\\\").replace("\n", "\\n").replace("\r", "\\r")
-    return escaped if escaped == name else "\\" + escaped
-
-
 def line_of(name, expected):
     text = shown(name)
     return f"{expected}  {name}\n" if text == name else f"\\{expected}  {text[1:]}\n"
 
 
 def texts_in_order(faults):
-    """The texts about a name are written before those about the next, on both outputs. Here both are one pipe."""
-    unread, bad = "b3sum: missing: cannot read\n", "b3sum: : bad name\n"
-    line = f"{Z1}  z\n"
-    faults.row("lines and complaints over one pipe", ["z", "z", "", "z", "missing", "z", ""],
-               line * 2 + bad + line + unread + line + bad, status=1, stderr=subprocess.STDOUT)
-    ok, short = "z: OK\n", "b3sum: line 3: short line\n"
-    Path("of-z").write_text(line * 2 + "x\n" + line + f"{Z1}  missing\n")
-    faults.row("verdicts and complaints over one pipe", ["-c", "of-z", "missing", "of-z"],
-               ((ok * 2 + short + ok + "missing: FAILED (cannot read)\n") + unread
-                + (ok * 2 + short + ok + "missing: FAILED (cannot read)\n") + warning(4)),
-               status=1, stderr=subprocess.STDOUT)
+    """The texts about a name are written before those about the next, on both outputs. Here both are one pipe, for which
+    lines are gathered, or one terminal, for which they are not."""
+    unread, bad, line = "b3sum: missing: cannot read\n", "b3sum: : bad name\n", f"{Z1}  z\n"
+    names = ["z", "z", "b\ufffd", "z", "missing", "z", "", "-", "-"]
+    said = (line * 2 + "b3sum: b\ufffd: bad name\n" + line + unread + line + bad + f"{Z1}  -\n" + "b3sum: -: cannot read\n")
+    by_pipe_and_terminal(faults, "lines and complaints", names, said, b"\0")
+    Path("listed").write_bytes(b"z\0\xff\0z\0missing\0\0z\0l\xc3")
+    said = (line + "b3sum: listed: name 2 is not text\n" + line + unread + bad + line
+            + "b3sum: listed: name 7 is not text\n")
+    by_pipe_and_terminal(faults, "lines and complaints of a list of names", ["--files0-from", "listed"], said, b"")
+    Path("of-z").write_text(f"{line}x\n{line}{Z1}  missing\n{Z1}  e\n{line}")
+    ok = "z: OK\n"
+    verdicts = f"{ok}b3sum: line 2: short line\n{ok}missing: FAILED (cannot read)\ne: FAILED\n{ok}"
+    by_pipe_and_terminal(faults, "verdicts and complaints", ["-c", "of-z", "missing", "of-z"],
+                   verdicts + unread + verdicts + warning(6), b"")
+
+
+def by_pipe_and_terminal(faults, name, words, said, given):
+    for threads in ("1", "2", "4"):
+        words_of_threads = ["--num-threads", threads, *words]
+        faults.row(f"{name} over one pipe, {threads} threads", words_of_threads, said, status=1, input=given,
+                   stderr=subprocess.STDOUT)
+        with open("given", "wb+", buffering=0) as file:
+            file.write(given)
+            file.seek(0)
+            _, written, status, _ = run(faults, words_of_threads, stdin=file, stdout="terminal")
+        faults.compare(f"{name} on one terminal, {threads} threads", (written.replace(b"\r\n", b"\n"), None, status),
+                       (said, "", 1))

@@ -24,6 +24,12 @@ def warning(count):
     return f"b3sum: WARNING: {count} computed checksum{'' if count == 1 else 's'} did NOT match\n"
 
 
+def shown(name):
+    """A name as the program writes it."""
+    escaped = name.replace("\\", "\\\\").replace("\n", "\\n").replace("\r", "\\r")
+    return escaped if escaped == name else "\\" + escaped
+
+
 def closing(*descriptors):
     def close():
         for descriptor in descriptors:

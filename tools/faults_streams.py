@@ -2,6 +2,7 @@
 
 import os
 import re
+import resource
 import select
 import socket
 import subprocess
@@ -11,7 +12,7 @@ from contextlib import contextmanager, suppress
 from pathlib import Path
 
 from blake3 import digest
-from faults_rows import CANNOT_WRITE, KEY, KEYED_Z0, PATTERN, SECONDS, Z0, Z1, Z1025, closing
+from faults_rows import CANNOT_WRITE, KEY, KEYED_Z0, PATTERN, SECONDS, Z0, Z1, Z1025, closing, limited
 
 # A plain file that reports no length, and does not end.
 KERNEL_LOG = "/proc/kmsg"
@@ -43,6 +44,25 @@ def full_and_closed_outputs(faults):
     faults.row("a complaint alone, onto a full device", ["missing"], err=unread, status=1, stdout=full)
     faults.row("all streams closed", ["e"], status=1, preexec_fn=closing(0, 1, 2))
     full.close()
+
+
+def outputs_cut_short(faults):
+    """An output that takes some bytes of a text, and no more."""
+    line, unread = f"{Z1025}  -\n", "b3sum: missing: cannot read\n"
+    for most in range(len(line)):
+        cut_short(faults, f"a line onto an output of {most} bytes", [], "stdout", most, line[:most], CANNOT_WRITE)
+    for most in range(len(unread)):
+        cut_short(faults, f"a complaint onto an output of {most} bytes", ["missing"], "stderr", most, unread[:most], "")
+    for words, begins in ((["--help"], "Wri"), (["--version"], "b3s"), (["-c", "good"], "e: ")):
+        cut_short(faults, f"{words} onto an output of three bytes", words, "stdout", 3, begins, CANNOT_WRITE)
+
+
+def cut_short(faults, name, words, stream, most, begins, err):
+    with open("cut", "wb") as cut:
+        # Such a write is a fault where the signal of this limit is ignored, as it is here.
+        faults.row(name, words, err=err, status=1, input=PATTERN[:1025], restore_signals=False,
+                   preexec_fn=limited(resource.RLIMIT_FSIZE, most), **{stream: cut})
+    faults.compare(f"{name}: what it took", (Path("cut").read_bytes(), None, 0), (begins, "", 0))
 
 
 def a_reader_that_goes_away(faults):

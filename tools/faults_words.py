@@ -5,17 +5,18 @@ import re
 import subprocess
 from pathlib import Path
 
-from faults_rows import KEY, KEYED_Z0, Z0, closing, opened_folder, warning
+from blake3 import Tree
+from faults_rows import KEY, KEYED_Z0, Z0, closing, opened_folder, shown, warning
 
 CONTEXT = "BLAKE3 2019-12-27 16:29:52 test vectors context"
 DERIVED_Z0 = "2cc39783c223154fea8dfb7c1b1660f2ac2dcbd1c1de8277b0b0dd39b7e50d7d"
 NOT_THE_KEY = "b3sum: the key is not 32 bytes\n"
 # The text of an error that clap finds is not checked, only that there is one.
 WORDS_FAULT = re.compile(rb"error: .+", re.DOTALL)
-VERSION = re.compile(rb"b3sum \d+\.\d+\.\d+\n")
 LAST_PLACE = str((1 << 64) - 1)
 ROOT = Path(__file__).resolve().parent.parent
 MAN_PAGE = ROOT / "b3sum.1"
+COMMAND = ROOT / "crates/b3_arguments/src/command.rt"
 # An option of the help and of the completions of zsh and fish: its short form, its name, a mark of a value, its help.
 HELP_OPTION = re.compile(r"^ +(?:-(\w), )?--([\w-]+)( <\w+>)? +(.+)$", re.MULTILINE)
 ZSH_OPTION = re.compile(r"^ +'(?:\(.*?\)'\{-(\w)\+?,)?--([\w-]+)(=)?(?:\}')?(?:\[(.+)\])?", re.MULTILINE)
@@ -29,9 +30,14 @@ def words_of_sums(faults):
     faults.row("no words", [], f"{Z0}  -\n")
     faults.row("no output bytes", ["--length", "0"], "  -\n")
     faults.row("one output byte", ["-l", "1"], "af  -\n")
+    faults.row("one output byte, by the long word", ["--length", "1"], "af  -\n")
     faults.row("four raw bytes", ["--raw", "-l", "4"], bytes.fromhex(Z0[:8]))
     faults.row("raw without names is raw", ["--raw", "--no-names"], bytes.fromhex(Z0))
     faults.row("the most output bytes", ["-l", "1048576", "--no-names"], re.compile(rb"af1349[0-9a-f]{2097146}\n"))
+    of_none = Tree(b"")
+    for seek, length in ((0, 31), (0, 33), (0, 64), (1, 31), (63, 2), (1, 65)):
+        line = f"{of_none.output(0, seek, length).hex()}  -\n"
+        faults.row(f"{length} output bytes from {seek} on", ["--seek", str(seek), "-l", str(length)], line)
     faults.row("a derived key", ["--derive-key", CONTEXT], f"{DERIVED_Z0}  -\n")
     faults.row("a tagged line", ["--tag"], f"BLAKE3 (-) = {Z0}\n")
     faults.row("all output bytes but the first", ["--seek", "1", "--length", "31"], f"{Z0[2:]}  -\n")
@@ -41,11 +47,12 @@ def words_of_sums(faults):
     faults.row("the last byte of the output", ["--seek", str(int(LAST_PLACE) - 1), "-l", "1"],
                re.compile(rb"[0-9a-f]{2}  -\n"))
     faults.row("words that change nothing", ["--no-mmap", "--progress", "--num-threads", "65535", "e"], f"{Z0}  e\n")
+    faults.row("words that change nothing, and input", ["--num-threads=65535", "--no-mmap", "-"], f"{Z0}  -\n")
     faults.row("no threads means the usual number", ["--num-threads", "0", "e"], f"{Z0}  e\n")
 
 
 def refused_words(faults):
-    """Options that cannot be combined, of which the first refusal is written, and invalid options."""
+    """Options that cannot be combined, of which the first refusal is written."""
     for number, (option, value) in enumerate(EXCLUDED.items()):
         others = [word for later in list(EXCLUDED)[number + 1 :] for word in (later, *EXCLUDED[later])]
         faults.row(f"--check and {option}", ["e", *others, option, *value, "--check"],
@@ -55,6 +62,7 @@ def refused_words(faults):
                         (["--keyed"], "--keyed needs files"), (["--keyed", "e", "-"], "--keyed needs files"),
                         (["--keyed", "--derive-key", "c", "--quiet", "--raw", "e", "-"],
                          "--keyed cannot be used with --derive-key"),
+                        (["--quiet", "--raw", "e", "e"], "--quiet needs --check"),
                         (["--keyed", "--quiet", "--raw", "e", "-"], "--quiet needs --check"),
                         (["--keyed", "--raw", "e", "-"], "--raw takes one input"),
                         (["--keyed", "--tag", "--raw"], "--keyed needs files"),
@@ -67,22 +75,55 @@ def refused_words(faults):
                         (["-w", "--strict", "e"], "--strict needs --check"), (["-w"], "--warn needs --check"),
                         (["--ignore-missing", "--quiet"], "--quiet needs --check"),
                         (["--strict", "--seek", LAST_PLACE], "--seek and --length pass the end of the output"),
+                        (["--status", "--seek", LAST_PLACE], "--seek and --length pass the end of the output"),
+                        (["--files0-from", "e", "--seek", LAST_PLACE, "e"],
+                         "--seek and --length pass the end of the output"),
+                        (["--files0-from", "e", "--raw", "e", "e"], "--raw takes one input"),
+                        (["--files0-from", "e", "--check", ""], "--files0-from takes no FILE"),
                         (["--files0-from", "e", "e"], "--files0-from takes no FILE"),
                         (["--files0-from", "e", "-w", "e"], "--warn needs --check"),
                         (["--files0-from", "-", "--keyed"], "--keyed needs files")):
         faults.row(" ".join(given), given, err=f"b3sum: {text}\n", status=2)
-    for given in (["--bogus"], ["-x"], ["--length"], ["--length", "1048577"], ["--length", "-1"], ["--length", "x"],
-                  ["--length", ""], ["--seek"], ["--seek", "-1"], ["--seek", str(int(LAST_PLACE) + 1)], ["--tag=1"],
-                  ["--derive-key"], ["--num-threads"], ["--num-threads", "65536"], ["--raw=1"]):
+
+
+def invalid_words(faults):
+    """What is not known is named, and nothing is guessed from its letters; a value that is not taken is told."""
+    for given in (["-x"], ["--length", "-1"], ["--length", ""], ["--seek"], ["--tag=1"], ["--num-threads"], ["--raw=1"]):
         faults.row(" ".join(given), given, err=WORDS_FAULT, status=2)
+    above = str(int(LAST_PLACE) + 1)
+    for given, part in ((["--length", "1048577"], "1048577 is not in 0..=1048576"),
+                        (["--num-threads", "65536"], "65536 is not in 0..=65535"),
+                        (["--seek", above], f"invalid value '{above}' for '--seek <N>'"),
+                        (["--length", "x"], "invalid value 'x' for '--length <N>'"),
+                        (["--length"], "a value is required for '--length <N>'"),
+                        (["--derive-key"], "a value is required for '--derive-key <CONTEXT>'")):
+        said = re.compile(f"error: .*{re.escape(part)}.*".encode(), re.DOTALL)
+        faults.row(" ".join(given), given, err=said, status=2)
+    for given, word in ((["--bogus"], "--bogus"), (["--zero", "e"], "--zero"), (["--seek", "-1"], "-1")):
+        said = f"error: unexpected argument '{word}' found\n\nFor more information, try '--help'.\n"
+        faults.row(" ".join(given), given, err=said, status=2)
+
+
+def arguments(faults):
+    """Arguments of any length, thousands of them, and to the character: each is told as a name that is missing."""
+    for length in (1, 255, 256, 257, 512, 513, 131_071):
+        name = "q" * length
+        faults.row(f"an argument of {length} bytes", [name], err=f"b3sum: {name}: cannot read\n", status=1)
+    faults.row("2,000 arguments", ["e"] * 2_000, f"{Z0}  e\n" * 2_000)
+    names = ("q", " q", "q ", " ", "\tq\n", "q\r", "q/", "q//", "./q", "--", "-b", "\u00e9", "Q")
+    said = "".join(f"b3sum: {shown(name)}: cannot read\n" for name in names)
+    faults.row("arguments to the character", ["--", *names, "", "-"], f"{Z0}  -\n", said + "b3sum: : bad name\n", 1)
 
 
 def help_and_version(faults):
     """The texts of help and version; the limits in the help are those of the manual page."""
-    told = ("-c", *EXCLUDED, "-l", "--quiet", "--ignore-missing", "--status", "--strict", "-w, --warn", "--files0-from",
-            "--num-threads", "--progress", "--no-mmap", "--help", "--version", "FILE")
+    told = (r"Usage: b3sum \[OPTIONS\] \[FILE\]\.\.\.", "Examples:", "status", "-c", *EXCLUDED, "-l", "--quiet",
+            "--ignore-missing", "--status", "--strict", "-w, --warn", "--files0-from", "--num-threads", "--progress",
+            "--no-mmap", "--help", "--version", "FILE")
     help_text = re.compile("".join(f"(?=.*{word})" for word in told).encode() + rb".+\n", re.DOTALL)
-    for word, out in (("--help", help_text), ("-h", help_text), ("--version", VERSION), ("-V", VERSION)):
+    version = re.search(r'\.version\("(\d+\.\d+\.\d+)"\)', COMMAND.read_text())[1]
+    said = f"b3sum {version}\n"
+    for word, out in (("--help", help_text), ("-h", help_text), ("--version", said), ("-V", said)):
         faults.row(word, [word], out)
     help_said = subprocess.run([faults.program, "--help"], stdout=subprocess.PIPE, text=True).stdout
     page = MAN_PAGE.read_text().replace("\n", " ")
@@ -154,6 +195,7 @@ def odd_names(faults):
         faults.row(f"the name {name!r} in a list", ["-c"], "", said, 1, input=f"{Z0}  {name}\n".encode())
     faults.row("the escaped bad name", ["a\n\ufffd"], err="b3sum: \\a\\n\ufffd: bad name\n", status=1)
     faults.row("the empty name", [""], err="b3sum: : bad name\n", status=1)
+    faults.row("the empty name, tagged", ["--tag", ""], err="b3sum: : bad name\n", status=1)
     faults.row("the empty name, not shown", ["--no-names", ""], err="b3sum: : cannot read\n", status=1)
     faults.row("the empty name, raw", ["--raw", ""], err="b3sum: : cannot read\n", status=1)
     for given in ([b"\xff"], ["e", b"a\xc3"], [b"\xed\xa0\x80"], ["--bogus", b"\xff"], ["--help", b"\xff"],

@@ -131,6 +131,23 @@ fn assert_step<'a, L: InputLedger>(
     assert_same(rt, counts(board, share), (deposited, waiting, deposited));
 }
 
+// Each step of a new board, to its root.
+fn assert_steps<'a, L: InputLedger>(
+    rt: &impl Abort,
+    board: &mut MemoryBoard<'a, L>,
+    share: &mut Share<L>,
+    plan: &Plan<'a>,
+    steps: &[Step],
+) {
+    assert_that(rt, board.is_over(plan) && board.deposited() == 0);
+    assert_same(rt, board.open_spans(), plan.len());
+    for step in steps {
+        assert_step(rt, board, share, plan, step);
+    }
+    assert_root(rt, board, plan.input());
+    assert_same(rt, board.open_span(0), None);
+}
+
 fn steps_on<'a, L: InputLedger>(
     rt: &impl Abort,
     alloc: Global,
@@ -144,13 +161,7 @@ fn steps_on<'a, L: InputLedger>(
     requires own { IsPlanOf L.input L.mode L.first plan.now }
 {
     let (mut board, mut share) = open_board::<L>(alloc, plan, blank)?;
-    assert_that(rt, board.is_over(plan) && board.deposited() == 0);
-    assert_same(rt, board.open_spans(), plan.len());
-    for step in steps {
-        assert_step(rt, &mut board, &mut share, plan, step);
-    }
-    assert_root(rt, &board, plan.input());
-    assert_same(rt, board.open_span(0), None);
+    assert_steps(rt, &mut board, &mut share, plan, steps);
     Ok(())
 }
 

@@ -16,7 +16,6 @@ mod memory;
 mod names;
 mod recording;
 mod rendezvous;
-mod strictness;
 mod sums;
 
 use asserts::assert_same;
@@ -24,12 +23,8 @@ use b3_check::{CheckOptions, Form, KeyChoice, RunFault, SumOptions, Tally};
 use std::alloc::Global;
 use std::test::Fail;
 
-// The digest of no bytes, and the keyed one of the key below.
+// The digest of no bytes.
 const EMPTY: &str = "af1349b9f5f9a1a6a0404dea36dcc9499bcb25c9adc112b7cc9a93cae41f3262";
-
-const KEY: &[u8] = b"whats the Elvish word for friend";
-
-const KEYED_EMPTY: &str = "92b2b75604ed3c761f9d6f62392c8a9227ad0ea3f09573e783f1498a4ed60d26";
 
 // The digest of one byte 00.
 const ONE_BYTE: &str = "2d3adedff11b61f14c886e35afa036736dcd87a74d27b5c1510225d0f592e213";
@@ -86,13 +81,14 @@ fn check_options(quiet: bool, largest: u64) -> CheckOptions {
     }
 }
 
-// These pieces, one after the other.
-fn joined(alloc: Global, pieces: &[&str]) -> Result<String, Fail> {
-    let mut text = String::new(alloc);
-    for piece in pieces {
-        text.push_str(piece)?;
+// A text with this end, so often.
+fn repeated(alloc: Global, text: &str, end: &str, times: usize) -> Result<String, Fail> {
+    let mut all = String::new(alloc);
+    for _ in 0..times {
+        all.push_str(text)?;
+        all.push_str(end)?;
     }
-    Ok(text)
+    Ok(all)
 }
 
 #[test]

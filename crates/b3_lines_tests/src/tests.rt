@@ -4,7 +4,6 @@
 mod asserts;
 mod digits;
 mod memory;
-mod read;
 mod written;
 
 use asserts::{assert_same, assert_same_for, assert_that};

@@ -39,6 +39,23 @@ fn put<'a, L: InputLedger>(
     board.deposit(done, share)
 }
 
+// So many chunks were deposited, and are no longer waiting.
+fn assert_taken<'a, L: InputLedger>(
+    rt: &impl Abort,
+    board: &MemoryBoard<'a, L>,
+    share: &Share<L>,
+    before: (u64, u64, u64),
+    count: u64,
+) {
+    let (deposited, waiting, chunks) = before;
+    let want = (
+        deposited.wrapping_add(count),
+        waiting.wrapping_sub(count),
+        chunks.wrapping_add(count),
+    );
+    assert_same(rt, counts(board, share), want);
+}
+
 // Deposits what is done. It is taken where its span is open and its plan is the board's; else it comes back by
 // the name of the first of both that does not hold, and neither board nor share has changed.
 fn deposit_checked<'a, L: InputLedger>(
@@ -54,13 +71,7 @@ fn deposit_checked<'a, L: InputLedger>(
     let back = match put(board, share, done) {
         Ok(()) => {
             assert_that(rt, is_open && is_own);
-            let (deposited, waiting, chunks) = before;
-            let want = (
-                deposited.wrapping_add(span.count),
-                waiting.wrapping_sub(span.count),
-                chunks.wrapping_add(span.count),
-            );
-            assert_same(rt, counts(board, share), want);
+            assert_taken(rt, board, share, before, span.count);
             return;
         }
         Err(Refused::NotOpen(back)) => {

@@ -95,19 +95,30 @@ fn assert_plan(
     Ok(())
 }
 
+// The same of a plan that was made, or refused.
+fn assert_made(
+    rt: &impl Abort,
+    alloc: Global,
+    made: Result<Plan<'_>, BoardFault>,
+    first: u64,
+    len: usize,
+) -> Result<(), BoardFault> {
+    assert_plan(rt, alloc, &made?, first, len)
+}
+
 /// Each growth is refused in turn by `make refused`.
 #[test]
 fn refused_memory_is_answered(rt: HostRuntime) -> Result<(), Fail> {
     let alloc = rt.alloc();
     let input = [7u8; 3000];
-    assert_plan(&rt, alloc, &by_grain(alloc, &input, 1)?, 0, 3)?;
+    assert_made(&rt, alloc, by_grain(alloc, &input, 1), 0, 3)?;
     let cutting = [span(0, 2), span(2, 1)];
-    assert_plan(&rt, alloc, &by_cutting(alloc, &input, &cutting)?, 0, 2)?;
-    assert_plan(&rt, alloc, &part_by_grain(alloc, &input, 2)?, 16384, 2)?;
-    assert_plan(
+    assert_made(&rt, alloc, by_cutting(alloc, &input, &cutting), 0, 2)?;
+    assert_made(&rt, alloc, part_by_grain(alloc, &input, 2), 16384, 2)?;
+    assert_made(
         &rt,
         alloc,
-        &part_by_cutting(alloc, &input, &cutting)?,
+        part_by_cutting(alloc, &input, &cutting),
         16384,
         2,
     )?;

@@ -6,7 +6,7 @@ use crate::tests::contents::{line_of, pattern};
 use crate::tests::ended::{Ended, check, check_behind, sum, sum_behind};
 use crate::tests::lettered_files::{Access, LetteredFiles};
 use crate::tests::rendezvous::{AllAtOnce, Rendezvous};
-use crate::tests::{ONE_BYTE, check_options, options, tally};
+use crate::tests::{ONE_BYTE, check_options, options, repeated, tally};
 use b3_check::{CheckOptions, SumOptions};
 use std::alloc::Global;
 use std::process::Abort;
@@ -43,7 +43,41 @@ fn assert_passed(
     assert_same_for(rt, workers, gate.calls(), spans);
 }
 
-// Behind a gate that holds each worker until all have come, by either engine.
+// Behind a gate that holds each worker until all have come.
+fn assert_sum_behind<R: Abort + Threads + Wait + Sync>(
+    rt: &R,
+    alloc: Global,
+    kept: &[u8],
+    name: &str,
+    line: &str,
+    workers: u32,
+    spans: u64,
+) -> Result<(), Fail> {
+    let mut shelf = LetteredFiles::new(alloc, kept, b"", Access::AtPlaces);
+    let gate = AllAtOnce::new(workers);
+    let ended = sum_behind(rt, alloc, &mut shelf, name, &sum_by(workers), &gate)?;
+    assert_passed(rt, &gate, workers, spans, &ended, line);
+    Ok(())
+}
+
+// The same of a check of a list.
+fn assert_check_behind<R: Abort + Threads + Wait + Sync>(
+    rt: &R,
+    alloc: Global,
+    kept: &[u8],
+    list: &str,
+    verdict: &str,
+    workers: u32,
+    spans: u64,
+) -> Result<(), Fail> {
+    let mut shelf = LetteredFiles::new(alloc, kept, list.as_bytes(), Access::AtPlaces);
+    let gate = AllAtOnce::new(workers);
+    let ended = check_behind(rt, alloc, &mut shelf, &check_by(workers), &gate)?;
+    assert_passed(rt, &gate, workers, spans, &ended, verdict);
+    Ok(())
+}
+
+// By either engine.
 fn assert_behind<R: Abort + Threads + Wait + Sync>(
     rt: &R,
     alloc: Global,
@@ -52,52 +86,70 @@ fn assert_behind<R: Abort + Threads + Wait + Sync>(
     spans: u64,
 ) -> Result<(), Fail> {
     let kept = pattern(alloc, 262_144 + 250)?;
-    let line = format!(in alloc; "{}\n", line_of(name))?;
-    let verdict = format!(in alloc; "{name}: OK\n")?;
-    let mut shelf = LetteredFiles::new(alloc, &kept, b"", Access::AtPlaces);
-    let gate = AllAtOnce::new(workers);
-    let ended = sum_behind(rt, alloc, &mut shelf, name, &sum_by(workers), &gate)?;
-    assert_passed(rt, &gate, workers, spans, &ended, line.as_str());
-    let mut shelf = LetteredFiles::new(alloc, &kept, line.as_bytes(), Access::AtPlaces);
-    let gate = AllAtOnce::new(workers);
-    let ended = check_behind(rt, alloc, &mut shelf, &check_by(workers), &gate)?;
-    assert_passed(rt, &gate, workers, spans, &ended, verdict.as_str());
+    let line = repeated(alloc, line_of(name), "\n", 1)?;
+    let verdict = repeated(alloc, name, ": OK\n", 1)?;
+    let (line, verdict) = (line.as_str(), verdict.as_str());
+    assert_sum_behind(rt, alloc, &kept, name, line, workers, spans)?;
+    assert_check_behind(rt, alloc, &kept, line, verdict, workers, spans)
+}
+
+// A shelf that holds each call of a thread until as many as there are workers have come: these files are asked of it,
+// behind the open gate.
+fn assert_sum_asked<R: Abort + Threads + Wait + Sync>(
+    rt: &R,
+    alloc: Global,
+    access: Access,
+    kept: &[u8],
+    names: &[&str],
+    lines: &str,
+    workers: u32,
+) -> Result<(), Fail> {
+    let mut shelf = LetteredFiles::new(alloc, kept, b"", access);
+    shelf.readers = Rendezvous::new(workers);
+    let ended = sum(rt, alloc, &mut shelf, names, &sum_by(workers))?;
+    let counts = tally(names.len() as u64, 0, 0);
+    ended.assert(rt, lines, Ok(counts), lines.as_bytes(), b"");
+    assert_that_for(rt, workers, shelf.readers.is_complete());
     Ok(())
 }
 
-// Behind the open gate, by either engine: so many files of one line are asked of a shelf that holds each call of a
-// thread until as many as there are workers have come.
+// The same of a check of a list of so many files.
+fn assert_check_asked<R: Abort + Threads + Wait + Sync>(
+    rt: &R,
+    alloc: Global,
+    access: Access,
+    kept: &[u8],
+    list: &str,
+    files: usize,
+    verdicts: &str,
+    workers: u32,
+) -> Result<(), Fail> {
+    let mut shelf = LetteredFiles::new(alloc, kept, list.as_bytes(), access);
+    shelf.readers = Rendezvous::new(workers);
+    let ended = check(rt, alloc, &mut shelf, &["l"], &check_by(workers))?;
+    let counts = tally(files as u64, 0, 0);
+    ended.assert(rt, list, Ok(counts), verdicts.as_bytes(), b"");
+    assert_that_for(rt, workers, shelf.readers.is_complete());
+    Ok(())
+}
+
+// By either engine: so many files of one line.
 fn assert_asked<R: Abort + Threads + Wait + Sync>(
     rt: &R,
     alloc: Global,
     access: Access,
     name: &str,
     line: &str,
-    files: u64,
+    files: usize,
     workers: u32,
 ) -> Result<(), Fail> {
     let kept = pattern(alloc, 262_144 + 250)?;
-    let mut names = Vec::new(alloc);
-    let mut lines = String::new(alloc);
-    let mut verdicts = String::new(alloc);
-    for _ in 0..files {
-        names.push(name)?;
-        lines.push_str(line)?;
-        lines.push_str("\n")?;
-        verdicts.push_str(name)?;
-        verdicts.push_str(": OK\n")?;
-    }
-    let mut shelf = LetteredFiles::new(alloc, &kept, b"", access);
-    shelf.readers = Rendezvous::new(workers);
-    let ended = sum(rt, alloc, &mut shelf, &names, &sum_by(workers))?;
-    ended.assert(rt, name, Ok(tally(files, 0, 0)), lines.as_bytes(), b"");
-    assert_that_for(rt, workers, shelf.readers.is_complete());
-    let mut shelf = LetteredFiles::new(alloc, &kept, lines.as_bytes(), access);
-    shelf.readers = Rendezvous::new(workers);
-    let ended = check(rt, alloc, &mut shelf, &["l"], &check_by(workers))?;
-    ended.assert(rt, name, Ok(tally(files, 0, 0)), verdicts.as_bytes(), b"");
-    assert_that_for(rt, workers, shelf.readers.is_complete());
-    Ok(())
+    let names = vec![in alloc; name; files]?;
+    let lines = repeated(alloc, line, "\n", files)?;
+    let verdicts = repeated(alloc, name, ": OK\n", files)?;
+    let (lines, verdicts) = (lines.as_str(), verdicts.as_str());
+    assert_sum_asked(rt, alloc, access, &kept, &names, lines, workers)?;
+    assert_check_asked(rt, alloc, access, &kept, lines, files, verdicts, workers)
 }
 
 // One content, behind both.
@@ -138,7 +190,7 @@ fn all_workers_at_once(rt: HostRuntime) -> Result<(), Fail> {
 fn all_workers_beside_one_another(rt: HostRuntime) -> Result<(), Fail> {
     let line = format!(in rt.alloc(); "{ONE_BYTE}  g1")?;
     for workers in [2, 3, 4, 64u32] {
-        let files = workers as u64;
+        let files = workers as usize;
         let line = line.as_str();
         assert_asked(&rt, rt.alloc(), Access::Beside, "g1", line, files, workers)?;
     }

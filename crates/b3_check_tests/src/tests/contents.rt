@@ -4,7 +4,7 @@ use std::alloc::Global;
 use std::test::Fail;
 
 /// The check lines of contents whose bytes are 0 to 250, over and over, as many as the name says. They are those of
-/// other implementations. The lengths lie around none, a chunk, one to three spans of 16 KiB, one and two reads, one to
+/// other implementations, and `tools/faults` has the program write them too. The lengths lie around none, a chunk, one to three spans of 16 KiB, one and two reads, one to
 /// four pieces of 256 KiB, and 2^24; the others have spans that tests count.
 const LINES: [&str; 41] = [
     "af1349b9f5f9a1a6a0404dea36dcc9499bcb25c9adc112b7cc9a93cae41f3262  g0",
@@ -55,14 +55,6 @@ pub fn lines() -> &'static [&'static str] {
     &LINES
 }
 
-/// More than 2^28 bytes, by one byte: the spans are two pieces, and the last of them is a byte.
-pub const LONG_SPANS_AND_A_BYTE: &str =
-    "7e30cd0b28af6e9394b8a43254e477a3eafc1b8d1e9193424c1c781d05c6b009  g268435457";
-
-/// More than a region of 2^30 bytes, by one byte.
-pub const REGION_AND_A_BYTE: &str =
-    "88123cac922eb9aaabf114195d2a90a6cae336a738c8cfc29e4f750dda58045b  g1073741825";
-
 /// The line of a name that is among these.
 pub fn line_of(name: &str) -> &'static str {
     for line in lines() {
@@ -71,12 +63,6 @@ pub fn line_of(name: &str) -> &'static str {
         }
     }
     ""
-}
-
-/// The name in a line.
-pub fn name_in(line: &'static str) -> Result<&'static str, Fail> {
-    let name = line.as_bytes().get(66..).unwrap_or(b"");
-    Ok(str::from_utf8(name)?)
 }
 
 /// So many bytes of such a content.

@@ -45,8 +45,10 @@ impl Said {
     // So many names, whose letters are these, over and over.
     fn of(alloc: Global, letters: &str, count: usize) -> Result<Said, Fail> {
         let mut said = Said::of_none(alloc);
-        for (place, letter) in letters.chars().cycle().take(count).enumerate() {
-            let end = if letter == 'b' { "\0" } else { "" };
+        for place in 0..count {
+            let at = place % letters.len().max(1);
+            let letter = letters.get(at..at + 1).unwrap_or("");
+            let end = if letter == "b" { "\0" } else { "" };
             said.add(format!(in alloc; "{letter}{place:03}{end}")?)?;
         }
         Ok(said)

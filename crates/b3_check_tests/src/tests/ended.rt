@@ -1,15 +1,15 @@
 // Runs, and what they came to. The tests call the engines through here alone, so that none has their contracts among
 // the facts from which it is proved.
 
-ghost use Rattle.std.specs.Prelude.{◌≡◌, ◌^◌, ◌<◌, ◌≤◌, IfOk};
+ghost use Rattle.std.specs.Prelude.{◌≡◌, ◌^◌, ◌<◌, ◌≤◌};
 
 use super::asserts::{assert_same_for, assert_that};
 use b3_board::{Gate, OpenGate};
 use b3_check::{
-    CheckOptions, Form, MemoryShelf, MemorySink, Operands, RunFault, Shelf, Sink, SumOptions,
-    Tally, run_check, run_sum,
+    CheckOptions, Form, MemorySink, Operands, RunFault, Shelf, Sink, SumOptions, Tally, run_check,
+    run_sum,
 };
-use std::alloc::{AllocError, Global};
+use std::alloc::Global;
 use std::process::Abort;
 use std::sync::Wait;
 use std::test::Fail;
@@ -229,54 +229,4 @@ pub fn check_behind<R: Abort + Threads + Wait + Sync, S: Shelf + Send + Sync, G:
     let mut err = MemorySink::new(alloc);
     let answer = check_into_behind(rt, alloc, shelf, &lists, &mut out, &mut err, options, gate);
     ended_of(alloc, answer, &out, &err)
-}
-
-// A shelf in memory, of which nothing was asked yet.
-#[derive(Drop)]
-struct NewShelf {
-    shelf: MemoryShelf,
-    ghost unasked: { ⟦<MemoryShelf as Shelf>⟧.failures shelf ≡ 0 },
-}
-
-impl NewShelf {
-    fn put(&mut self, name: &str, content: &[u8]) -> Result<(), AllocError> {
-        self.shelf.put(name, content)
-    }
-}
-
-// Files in memory.
-fn shelf_of(alloc: Global, files: &[(&str, &[u8])]) -> Result<MemoryShelf, Fail>
-    ensures { IfOk result (λ shelf. ⟦<MemoryShelf as Shelf>⟧.failures shelf ≡ 0) }
-{
-    let mut fresh = NewShelf {
-        shelf: MemoryShelf::new(alloc),
-    };
-    for (name, content) in files {
-        fresh.put(*name, *content)?;
-    }
-    Ok(fresh.shelf)
-}
-
-/// Sums names of these files in memory, behind an open gate.
-pub fn sum_files<R: Abort + Threads + Wait + Sync>(
-    rt: &R,
-    alloc: Global,
-    files: &[(&str, &[u8])],
-    names: &[&str],
-    options: &SumOptions,
-) -> Result<Ended, Fail> {
-    let mut shelf = shelf_of(alloc, files)?;
-    sum(rt, alloc, &mut shelf, names, options)
-}
-
-/// Checks lists of these files in memory, behind an open gate.
-pub fn check_files<R: Abort + Threads + Wait + Sync>(
-    rt: &R,
-    alloc: Global,
-    files: &[(&str, &[u8])],
-    lists: &[&str],
-    options: &CheckOptions,
-) -> Result<Ended, Fail> {
-    let mut shelf = shelf_of(alloc, files)?;
-    check(rt, alloc, &mut shelf, lists, options)
 }

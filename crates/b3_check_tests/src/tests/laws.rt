@@ -28,7 +28,7 @@ fn what_was_summed_checks_as_ok(rt: HostRuntime) -> Result<(), Fail> {
     let alloc = rt.alloc();
     let files = [file(alloc, "Z0", b"")?, file(alloc, "Z1", b"\0")?];
     let both = sums_check(&rt, alloc, &files, "SUMS", 4)?;
-    let sums = super::joined(alloc, &[EMPTY, "  Z0\n", ONE_BYTE, "  Z1\n"])?;
+    let sums = format!(in alloc; "{EMPTY}  Z0\n{ONE_BYTE}  Z1\n")?;
     assert_both(&rt, &both, sums.as_bytes());
     Ok(())
 }

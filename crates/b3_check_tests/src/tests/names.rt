@@ -69,27 +69,36 @@ impl Texts {
     fn add(&mut self, alloc: Global, kept: &[u8], name: &str) -> Result<(), Fail> {
         let content = kept.get(..number_in(name) as usize).unwrap_or(b"");
         let line = write_line(alloc, &hash(content), name)?;
-        self.list.extend_from_slice(line.as_slice())?;
-        self.list.extend_from_slice(b"no line\n")?;
+        self.add_to_list(line.as_slice())?;
         if name.starts_with("g") {
-            self.lines.extend_from_slice(line.as_slice())?;
-            self.verdicts.push_str(name)?;
-            self.verdicts.push_str(": OK\n")?;
-            self.ok = self.ok.saturating_add(1);
-        } else {
-            let complaint = format!(in alloc; "b3sum: {name}: cannot read\n")?;
-            self.complaints.push_str(complaint.as_str())?;
-            self.verdicts.push_str(name)?;
-            self.verdicts.push_str(": FAILED (cannot read)\n")?;
-            if name.starts_with("f") {
-                self.begun.push_str(name)?;
-                self.begun.push_str("\n")?;
-            }
-            self.failed = self.failed.saturating_add(1);
+            return self.add_right(name, line.as_slice());
         }
-        let number = self.ok.saturating_add(self.failed).saturating_mul(2);
-        let warning = format!(in alloc; "b3sum: line {number}: short line\n")?;
-        self.warnings.push_str(warning.as_str())?;
+        self.add_wrong(name)
+    }
+
+    fn add_to_list(&mut self, line: &[u8]) -> Result<(), Fail> {
+        self.list.extend_from_slice(line)?;
+        self.list.extend_from_slice(b"no line\n")?;
+        let names = self.ok.saturating_add(self.failed).saturating_add(1);
+        let number = names.saturating_mul(2);
+        write!(self.warnings, "b3sum: line {number}: short line\n")?;
+        Ok(())
+    }
+
+    fn add_right(&mut self, name: &str, line: &[u8]) -> Result<(), Fail> {
+        self.lines.extend_from_slice(line)?;
+        write!(self.verdicts, "{name}: OK\n")?;
+        self.ok = self.ok.saturating_add(1);
+        Ok(())
+    }
+
+    fn add_wrong(&mut self, name: &str) -> Result<(), Fail> {
+        write!(self.complaints, "b3sum: {name}: cannot read\n")?;
+        write!(self.verdicts, "{name}: FAILED (cannot read)\n")?;
+        if name.starts_with("f") {
+            write!(self.begun, "{name}\n")?;
+        }
+        self.failed = self.failed.saturating_add(1);
         Ok(())
     }
 
@@ -115,8 +124,10 @@ fn texts_of(alloc: Global, kept: &[u8], names: &[String]) -> Result<Texts, Fail>
         texts.add(alloc, kept, name.as_str())?;
     }
     let failed = texts.failed.saturating_add(names.len() as u64);
-    let warning = format!(in alloc; "b3sum: WARNING: {failed} computed checksums did NOT match\n")?;
-    texts.warnings.push_str(warning.as_str())?;
+    write!(
+        texts.warnings,
+        "b3sum: WARNING: {failed} computed checksums did NOT match\n"
+    )?;
     Ok(texts)
 }
 
@@ -315,11 +326,27 @@ fn a_fault_comes_after_the_line(rt: HostRuntime) -> Result<(), Fail> {
     Ok(())
 }
 
+// So many empty contents are hashed beside one another by so many reads, each of which might have this length.
+fn assert_longest<R: Abort + Threads + Wait + Sync>(
+    rt: &R,
+    alloc: Global,
+    count: usize,
+    turns: u64,
+    max_len: u64,
+) -> Result<(), Fail> {
+    let mut shelf = LetteredFiles::new(alloc, b"", b"", Access::Beside);
+    let names = ["g0"; 8];
+    let names = &names[..count.min(8)];
+    let ended = sum(rt, alloc, &mut shelf, names, &options(turns, 0))?;
+    assert_same(rt, ended.answer, Ok(tally(count as u64, 0, 0)));
+    assert_same_for(rt, (count, turns), shelf.max_len(), max_len);
+    Ok(())
+}
+
 // A content that is hashed beside others has at most 32 MiB by four workers, 2 MiB where there are less than two names
 // for each of them, and no more than is read in order by as many reads as are allowed.
 #[test]
 fn a_content_beside_others_is_not_too_long(rt: HostRuntime) -> Result<(), Fail> {
-    let names = ["g0"; 8];
     for (count, turns, max_len) in [
         (8usize, 1_000u64, 33_554_432u64),
         (7, 1_000, 2_097_152),
@@ -327,11 +354,7 @@ fn a_content_beside_others_is_not_too_long(rt: HostRuntime) -> Result<(), Fail> 
         (8, 3, 196_607),
         (7, 1, 65_535),
     ] {
-        let mut shelf = LetteredFiles::new(rt.alloc(), b"", b"", Access::Beside);
-        let names = &names[..count.min(8)];
-        let ended = sum(&rt, rt.alloc(), &mut shelf, names, &options(turns, 0))?;
-        assert_same(&rt, ended.answer, Ok(tally(count as u64, 0, 0)));
-        assert_same_for(&rt, (count, turns), shelf.max_len(), max_len);
+        assert_longest(&rt, rt.alloc(), count, turns, max_len)?;
     }
     Ok(())
 }

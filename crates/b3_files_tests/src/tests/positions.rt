@@ -247,6 +247,32 @@ fn fill_parts<R: Threads + Sync, S: Shelf + Sync>(
     );
 }
 
+// So many zeros for each part.
+fn parts_of(alloc: Global, lens: &[usize]) -> Result<Vec<Vec<u8>>, AllocError> {
+    let mut parts = Vec::new(alloc);
+    for len in lens {
+        parts.push(vec![in alloc; 0u8; *len]?)?;
+    }
+    Ok(parts)
+}
+
+// Reads the parts of a shelf's file.
+fn assert_parts<R: Threads + Abort + Sync, S: Shelf + Sync>(
+    rt: &R,
+    shelf: &S,
+    content: &[u8],
+    parts: &mut [Vec<u8>],
+    threads: usize,
+    moves: &Moves,
+)
+    requires { 0 < threads }
+{
+    fill_parts(rt, shelf, parts, threads, moves);
+    for (part, wanted) in parts.iter().zip(content.chunks(PART_LEN)) {
+        assert_that_for(rt, threads, wanted.starts_with(part.as_slice()));
+    }
+}
+
 // Reads the parts of a file, which have these lengths.
 fn read_parts<R: Threads + Abort + Sync>(
     rt: &R,
@@ -258,19 +284,13 @@ fn read_parts<R: Threads + Abort + Sync>(
 ) -> Result<(), AllocError>
     requires { 0 < threads }
 {
+    let mut parts = parts_of(alloc, lens)?;
     let input = Endless {
         file: content,
         moves,
     };
     let shelf = begun(rt, input);
-    let mut parts = Vec::new(alloc);
-    for len in lens {
-        parts.push(vec![in alloc; 0u8; *len]?)?;
-    }
-    fill_parts(rt, &shelf, parts.as_mut_slice(), threads, moves);
-    for (part, wanted) in parts.iter().zip(content.chunks(PART_LEN)) {
-        assert_that_for(rt, threads, wanted.starts_with(part.as_slice()));
-    }
+    assert_parts(rt, &shelf, content, parts.as_mut_slice(), threads, moves);
     Ok(())
 }
 

@@ -1,6 +1,6 @@
 // The line of progress: what it says, when it comes, and that it goes away.
 
-ghost use Rattle.std.specs.Prelude.{◌≡◌};
+ghost use Rattle.std.specs.Prelude.{◌≡◌, ◌^◌, ◌<◌};
 
 use super::asserts::assert_same;
 use super::files::FOUR;
@@ -169,27 +169,20 @@ fn assert_counted<S: Shelf + Drop, C: Clock, W: Write>(
     Asked::new(CountingShelf::new(alloc, files, progress)).assert(rt, steps);
 }
 
-// One line in a fifth of a second, which goes away before anything else is written.
-#[test]
-fn a_line_comes_and_goes(rt: HostRuntime) -> Result<(), Fail> {
-    let alloc = rt.alloc();
-    let written = RefCell::new(String::new(alloc));
-    let screen = Screen { written: &written };
-    let clock = StepClock {
-        millis: Cell::new(0),
-    };
-    let progress = Progress::new(alloc, clock, screen, true);
-    let mut files = MemoryShelf::new(alloc);
-    files.put("a", b"bytes")?;
-    let mut shelf = Asked::new(CountingShelf::new(alloc, files, &progress));
-    let output = OutputSink::new(Screen { written: &written });
-    let mut sink = ClearingSink::new(&rt, output, true, &progress);
-    // Nothing is shown before it is asked for.
-    shelf.assert(&rt, &[Step::Begin("a", Ok(())), Step::Read(2, Ok(b"by"))]);
+// Counts a file of five bytes, and writes two lines meanwhile. Nothing is shown before it is asked for, and it is too soon
+// for another line at the second read.
+fn count_and_say<S: Shelf, K: Sink, C: Clock, W: Write>(
+    rt: &impl Abort,
+    shelf: &mut Asked<S>,
+    sink: &mut K,
+    progress: &Progress<C, W>,
+)
+    requires { K.failures sink.old < 2 ^ 63 }
+{
+    shelf.assert(rt, &[Step::Begin("a", Ok(())), Step::Read(2, Ok(b"by"))]);
     progress.show_if(true);
-    // It is too soon for another line at the second read.
     shelf.assert(
-        &rt,
+        rt,
         &[
             Step::Expect(2),
             Step::Begin("a", Ok(())),
@@ -197,9 +190,27 @@ fn a_line_comes_and_goes(rt: HostRuntime) -> Result<(), Fail> {
             Step::Read(2, Ok(b"te")),
         ],
     );
-    assert_same(&rt, sink.write(b"said\n"), Ok(5));
-    assert_same(&rt, sink.write(b"more\n"), Ok(5));
-    shelf.assert(&rt, &[Step::Read(2, Ok(b"s"))]);
+    assert_same(rt, sink.write(b"said\n"), Ok(5));
+    assert_same(rt, sink.write(b"more\n"), Ok(5));
+    shelf.assert(rt, &[Step::Read(2, Ok(b"s"))]);
+}
+
+// One line in a fifth of a second, which goes away before anything else is written.
+#[test]
+fn a_line_comes_and_goes(rt: HostRuntime) -> Result<(), Fail> {
+    let alloc = rt.alloc();
+    let mut files = MemoryShelf::new(alloc);
+    files.put("a", b"bytes")?;
+    let written = RefCell::new(String::new(alloc));
+    let screen = Screen { written: &written };
+    let clock = StepClock {
+        millis: Cell::new(0),
+    };
+    let progress = Progress::new(alloc, clock, screen, true);
+    let mut shelf = Asked::new(CountingShelf::new(alloc, files, &progress));
+    let output = OutputSink::new(Screen { written: &written });
+    let mut sink = ClearingSink::new(&rt, output, true, &progress);
+    count_and_say(&rt, &mut shelf, &mut sink, &progress);
     progress.clear(&rt);
     let due = "\r2 B of ~10 B, 20%, 6 B/s, 0:01 left, 0 of 2: a\x1b[K\
                \r\x1b[Ksaid\nmore\n\

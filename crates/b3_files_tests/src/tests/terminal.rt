@@ -189,10 +189,10 @@ fn count_and_write<R: Threads + Wait + Abort + Sync>(
     record: &Mutex<String>,
     is_beside: bool,
 ) -> Result<(), AllocError> {
-    let progress = Progress::new(alloc, FastClock::new(), Line { record }, true);
-    progress.show_if(true);
     let mut files = MemoryShelf::new(alloc);
     files.put("a", b"four")?;
+    let progress = Progress::new(alloc, FastClock::new(), Line { record }, true);
+    progress.show_if(true);
     let mut shelf = CountingShelf::new(alloc, files, &progress);
     assert_same(rt, shelf.begin("a"), Ok(()));
     write_on_terminal(rt, record, &shelf, &progress, is_beside);

@@ -1,6 +1,0 @@
-mod arguments;
-mod asserts;
-mod calls;
-mod lists;
-mod progress;
-mod words;
