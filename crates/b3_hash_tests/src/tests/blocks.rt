@@ -8,7 +8,6 @@ use super::{assert_digest, pattern, update};
 use b3_core::{BLOCK_LEN, CHUNK_LEN, Mode, Node, block_node, last_block_node, parent_node};
 use b3_hash::{Hasher, hash, keyed_hash};
 use std::process::Abort;
-use std::test::Fail;
 
 // The node of a chunk, one block at a time.
 fn chunk_plain(mode: &Mode, number: u64, bytes: &[u8]) -> Node
@@ -77,29 +76,26 @@ fn assert_lengths(rt: &impl Abort, all: &[u8], from: usize, to: usize)
 }
 
 #[test]
-fn lengths_of_up_to_three_blocks(rt: HostRuntime) -> Result<(), Fail> {
-    let all = pattern(rt.alloc(), 2048)?;
+fn lengths_of_up_to_three_blocks(rt: HostRuntime) {
+    let all = pattern(&rt, 2048);
     assert_lengths(&rt, &all, 0, 200);
-    Ok(())
 }
 
 #[test]
-fn lengths_around_a_chunk(rt: HostRuntime) -> Result<(), Fail> {
-    let all = pattern(rt.alloc(), 2048)?;
+fn lengths_around_a_chunk(rt: HostRuntime) {
+    let all = pattern(&rt, 2048);
     assert_lengths(&rt, &all, 955, 1100);
-    Ok(())
 }
 
 #[test]
-fn lengths_around_two_chunks(rt: HostRuntime) -> Result<(), Fail> {
-    let all = pattern(rt.alloc(), 2048)?;
+fn lengths_around_two_chunks(rt: HostRuntime) {
+    let all = pattern(&rt, 2048);
     assert_lengths(&rt, &all, 1980, 2048);
-    Ok(())
 }
 
 #[test]
-fn keyed_hashes_of_up_to_two_chunks(rt: HostRuntime) -> Result<(), Fail> {
-    let all = pattern(rt.alloc(), 2048)?;
+fn keyed_hashes_of_up_to_two_chunks(rt: HostRuntime) {
+    let all = pattern(&rt, 2048);
     let key = b"whats the Elvish word for friend";
     for len in 0..2049usize {
         let (bytes, _) = all.split_at(len);
@@ -110,5 +106,4 @@ fn keyed_hashes_of_up_to_two_chunks(rt: HostRuntime) -> Result<(), Fail> {
             digest_plain(&Mode::keyed(key), bytes),
         );
     }
-    Ok(())
 }

@@ -3,11 +3,10 @@
 ghost use Rattle.std.specs.Prelude.{◌≡◌, ◌≤◌, length};
 
 use super::asserts::{assert_same, assert_same_for, assert_that};
-use super::{assert_digest, assert_tree, digest_of, pattern, update};
+use super::{assert_digest, assert_displayed, assert_tree, digest_of, pattern, update};
 use b3_core::{Mode, parent_node, top};
 use b3_hash::{Hasher, TooLong, WindowFault, hash};
 use std::process::Abort;
-use std::test::Fail;
 
 // The digests of 2^24 bytes of the pattern, of one less and one more, by another implementation: the installed b3sum.
 const DIGEST_OF_16_MIB_LESS_1: [u8; 32] = [
@@ -37,8 +36,8 @@ fn push(rt: &impl Abort, hasher: &mut Hasher, bytes: &[u8], level: u32)
 
 // Alone, and followed by one byte more: the root is then the parent of both.
 #[test]
-fn a_window_of_16_mebibytes(rt: HostRuntime) -> Result<(), Fail> {
-    let all = pattern(rt.alloc(), 16_777_217)?;
+fn a_window_of_16_mebibytes(rt: HostRuntime) {
+    let all = pattern(&rt, 16_777_217);
     let (window, byte) = all.split_at(16_777_216);
     let node = top(&Mode::hash(), 0, window);
     let mut hasher = Hasher::new(Mode::hash());
@@ -54,17 +53,15 @@ fn a_window_of_16_mebibytes(rt: HostRuntime) -> Result<(), Fail> {
     update(&rt, &mut hasher, byte);
     assert_digest(&rt, &hasher, &DIGEST_OF_16_MIB_AND_1, "and then 1");
     assert_same(&rt, hash(&all), DIGEST_OF_16_MIB_AND_1);
-    Ok(())
 }
 
 // A window, and one byte less.
 #[test]
-fn hashes_of_16_mebibytes(rt: HostRuntime) -> Result<(), Fail> {
-    let window = pattern(rt.alloc(), 16_777_216)?;
+fn hashes_of_16_mebibytes(rt: HostRuntime) {
+    let window = pattern(&rt, 16_777_216);
     assert_same(&rt, hash(&window), DIGEST_OF_16_MIB);
     let (less, _) = window.split_at(16_777_215);
     assert_same(&rt, hash(less), DIGEST_OF_16_MIB_LESS_1);
-    Ok(())
 }
 
 #[test]
@@ -110,8 +107,8 @@ fn assert_so_far(rt: &impl Abort, hasher: &Hasher, all: &[u8])
 }
 
 #[test]
-fn windows_among_bytes(rt: HostRuntime) -> Result<(), Fail> {
-    let all = pattern(rt.alloc(), 30_000)?;
+fn windows_among_bytes(rt: HostRuntime) {
+    let all = pattern(&rt, 30_000);
     let mut hasher = Hasher::new(Mode::hash());
     for (skip, level) in [(0usize, 2u32), (0, 1), (2048, 3), (0, 0), (3072, 2), (0, 0)] {
         update_then_push(&rt, &mut hasher, &all, skip, level.min(3));
@@ -121,7 +118,6 @@ fn windows_among_bytes(rt: HostRuntime) -> Result<(), Fail> {
     update(&rt, &mut hasher, rest);
     assert_same(&rt, hasher.len(), 30_000);
     assert_so_far(&rt, &hasher, &all);
-    Ok(())
 }
 
 // The output of the hasher's 12,288 bytes and a last window of `last` bytes.
@@ -138,34 +134,41 @@ fn assert_finish_with(rt: &impl Abort, hasher: &Hasher, all: &[u8], last: usize)
     assert_same_for(rt, last, digest_of(rt, output), hash(whole));
 }
 
+// Last windows of these lengths after the hasher's 12,288 bytes, which it still has then.
+fn assert_last_windows(rt: &impl Abort, hasher: &Hasher, all: &[u8])
+    requires { length all.now ≡ 16384 }
+{
+    for last in [1usize, 63, 64, 65, 1023, 1024, 1025, 2048, 3000, 4095, 4096] {
+        assert_finish_with(rt, hasher, all, last.min(4096));
+    }
+    let (before, _) = all.split_at(12_288);
+    assert_tree(rt, hasher, before, "which can go on");
+}
+
 #[test]
-fn a_last_window(rt: HostRuntime) -> Result<(), Fail> {
-    let all = pattern(rt.alloc(), 16_384)?;
+fn a_last_window(rt: HostRuntime) {
+    let all = pattern(&rt, 16_384);
     let (before, _) = all.split_at(12_288);
     let mut pushed = Hasher::new(Mode::hash());
     for window in before.chunks(4096) {
         push(&rt, &mut pushed, window, 2);
     }
+    assert_last_windows(&rt, &pushed, &all);
     let mut updated = Hasher::new(Mode::hash());
     update(&rt, &mut updated, before);
-    for last in [1usize, 63, 64, 65, 1023, 1024, 1025, 2048, 3000, 4095, 4096] {
-        assert_finish_with(&rt, &pushed, &all, last.min(4096));
-        assert_finish_with(&rt, &updated, &all, last.min(4096));
-    }
-    assert_tree(&rt, &pushed, before, "which can go on");
-    assert_tree(&rt, &updated, before, "which can go on");
-    Ok(())
+    assert_last_windows(&rt, &updated, &all);
 }
 
 #[test]
-fn texts_of_the_refusals(rt: HostRuntime) -> Result<(), Fail> {
-    let text = WindowFault::Unaligned.to_string(rt.alloc())?;
-    assert_same(
+fn texts_of_the_refusals(rt: HostRuntime) {
+    assert_displayed(
         &rt,
-        text.as_str(),
+        &WindowFault::Unaligned,
         "the window is at no multiple of its length",
     );
-    let text = WindowFault::TooLong.to_string(rt.alloc())?;
-    assert_same(&rt, text.as_str(), "the input has 2^64 bytes or more");
-    Ok(())
+    assert_displayed(
+        &rt,
+        &WindowFault::TooLong,
+        "the input has 2^64 bytes or more",
+    );
 }
