@@ -2,7 +2,7 @@
 
 ghost use Rattle.std.specs.Prelude.{◌*◌, ◌+◌, ◌≤◌, length};
 
-use super::asserts::assert_same;
+use super::asserts::{assert_same, assert_same_for};
 use super::lanes::four_modes;
 use super::vectors::{KEY, pattern};
 use b3_core::{
@@ -10,7 +10,6 @@ use b3_core::{
     last_block_node,
 };
 use std::process::Abort;
-use std::test::Fail;
 
 const NUMBER: u64 = 4_294_967_301;
 
@@ -48,18 +47,18 @@ fn assert_same_chain(rt: &impl Abort, mode: &Mode, index: usize, bytes: &[u8], c
     requires index { index + count ≤ 1000 }
 {
     let h = [9, 8, 7, 6, 5, 4, 3, 2];
-    assert_eq!(rt;
+    assert_same_for(
+        rt,
+        (count, index, mode.flag),
         chain_blocks(mode, NUMBER, index, &h, &bytes[..BLOCK_LEN * count]),
         chain_plain(mode, index, &h, bytes, count),
-        "{count} blocks from {index} on under the flag {}",
-        mode.flag
     );
 }
 
 // Also where the bytes begin at no multiple of a word.
 #[test]
-fn blocks_from_each_index_in_each_mode(rt: HostRuntime) -> Result<(), Fail> {
-    let bytes = pattern(rt.alloc(), 1030)?;
+fn blocks_from_each_index_in_each_mode(rt: HostRuntime) {
+    let bytes = pattern(&rt, 1030);
     for mode in four_modes() {
         for index in 0..16usize {
             for count in 0..17usize {
@@ -68,35 +67,32 @@ fn blocks_from_each_index_in_each_mode(rt: HostRuntime) -> Result<(), Fail> {
             }
         }
     }
-    Ok(())
 }
 
 // No index is too great: only block 0 differs from the others.
 #[test]
-fn blocks_from_the_greatest_index(rt: HostRuntime) -> Result<(), Fail> {
-    let bytes = pattern(rt.alloc(), 192)?;
+fn blocks_from_the_greatest_index(rt: HostRuntime) {
+    let bytes = pattern(&rt, 192);
     let mode = Mode::keyed(KEY);
     assert_same(
         &rt,
         chain_blocks(&mode, NUMBER, usize::MAX, &mode.key, &bytes),
         chain_plain(&mode, 1, &mode.key, &bytes, 3),
     );
-    Ok(())
 }
 
 #[test]
-fn chunks_of_each_length_in_each_mode(rt: HostRuntime) -> Result<(), Fail> {
-    let bytes = pattern(rt.alloc(), CHUNK_LEN)?;
+fn chunks_of_each_length_in_each_mode(rt: HostRuntime) {
+    let bytes = pattern(&rt, CHUNK_LEN);
     for mode in four_modes() {
         for len in 0..CHUNK_LEN + 1 {
             let (chunk, _) = bytes.split_at(len);
-            assert_eq!(rt;
+            assert_same_for(
+                &rt,
+                (len, mode.flag),
                 chunk_node(&mode, NUMBER, chunk),
                 chunk_plain(&mode, chunk),
-                "{len} bytes under the flag {}",
-                mode.flag
             );
         }
     }
-    Ok(())
 }

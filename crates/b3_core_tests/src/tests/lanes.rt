@@ -11,7 +11,6 @@ use b3_core::{
     chunks, compress, compress8, left, parent_node, top,
 };
 use std::process::Abort;
-use std::test::Fail;
 
 // The tree by chunks and parents one at a time, under the contract of `top`.
 fn top_plain(mode: &Mode, first: u64, bytes: &[u8]) -> Node
@@ -34,12 +33,11 @@ fn assert_same_top(rt: &impl Abort, mode: &Mode, first: u64, bytes: &[u8])
     requires len { length bytes.now < 2 ^ 20 }
     requires first { first ≤ 2 ^ 53 }
 {
-    assert_eq!(rt;
+    assert_same_for(
+        rt,
+        (bytes.len(), first, mode.flag),
         top(mode, first, bytes),
         top_plain(mode, first, bytes),
-        "{} bytes from {first} on under the flag {}",
-        bytes.len(),
-        mode.flag
     );
 }
 
@@ -53,20 +51,19 @@ pub(super) fn four_modes() -> [Mode; 4] {
 }
 
 #[test]
-fn tops_of_up_to_three_chunks_in_each_mode(rt: HostRuntime) -> Result<(), Fail> {
-    let bytes = pattern(rt.alloc(), 3000)?;
+fn tops_of_up_to_three_chunks_in_each_mode(rt: HostRuntime) {
+    let bytes = pattern(&rt, 3000);
     for mode in four_modes() {
         for len in 0..3001usize {
             let (part, _) = bytes.split_at(len);
             assert_same_top(&rt, &mode, 5, part);
         }
     }
-    Ok(())
 }
 
 #[test]
-fn tops_where_subtrees_begin_and_end_in_each_mode(rt: HostRuntime) -> Result<(), Fail> {
-    let bytes = pattern(rt.alloc(), 65537)?;
+fn tops_where_subtrees_begin_and_end_in_each_mode(rt: HostRuntime) {
+    let bytes = pattern(&rt, 65537);
     for mode in four_modes() {
         for len in [
             8191usize, 8192, 8193, 9216, 9217, 16384, 16385, 65536, 65537,
@@ -75,12 +72,11 @@ fn tops_where_subtrees_begin_and_end_in_each_mode(rt: HostRuntime) -> Result<(),
             assert_same_top(&rt, &mode, 5, part);
         }
     }
-    Ok(())
 }
 
 #[test]
-fn tops_around_whole_numbers_of_chunks(rt: HostRuntime) -> Result<(), Fail> {
-    let bytes = pattern(rt.alloc(), 70000)?;
+fn tops_around_whole_numbers_of_chunks(rt: HostRuntime) {
+    let bytes = pattern(&rt, 70000);
     let mode = Mode::hash();
     for count in 1..69usize {
         for more in 0..3usize {
@@ -89,13 +85,12 @@ fn tops_around_whole_numbers_of_chunks(rt: HostRuntime) -> Result<(), Fail> {
             assert_same_top(&rt, &mode, 5, part);
         }
     }
-    Ok(())
 }
 
 // The last chunk's blocks but its last one are chained with the chunks before it.
 #[test]
-fn tops_around_whole_numbers_of_blocks(rt: HostRuntime) -> Result<(), Fail> {
-    let bytes = pattern(rt.alloc(), 9300)?;
+fn tops_around_whole_numbers_of_blocks(rt: HostRuntime) {
+    let bytes = pattern(&rt, 9300);
     let mode = Mode::keyed(KEY);
     for blocks in 1..145usize {
         for more in 0..3usize {
@@ -104,14 +99,13 @@ fn tops_around_whole_numbers_of_blocks(rt: HostRuntime) -> Result<(), Fail> {
             assert_same_top(&rt, &mode, 5, part);
         }
     }
-    Ok(())
 }
 
 // One to eight full chunks together, with and without bytes of another after them, beside one chunk at a time: pairs
 // and lanes take over from one another between these numbers.
 #[test]
-fn one_to_eight_chunks_in_each_mode(rt: HostRuntime) -> Result<(), Fail> {
-    let bytes = pattern(rt.alloc(), 9215)?;
+fn one_to_eight_chunks_in_each_mode(rt: HostRuntime) {
+    let bytes = pattern(&rt, 9215);
     for mode in four_modes() {
         for first in [0, 5, FIRST] {
             for count in 1..9usize {
@@ -122,7 +116,6 @@ fn one_to_eight_chunks_in_each_mode(rt: HostRuntime) -> Result<(), Fail> {
             }
         }
     }
-    Ok(())
 }
 
 fn assert_chunks(rt: &impl Abort, mode: &Mode, first: u64, bytes: &[u8])
@@ -133,11 +126,11 @@ fn assert_chunks(rt: &impl Abort, mode: &Mode, first: u64, bytes: &[u8])
     let chainings = chain_chunks(mode, first, bytes);
     for j in 0..bytes.len() / CHUNK_LEN {
         let chunk = &bytes[CHUNK_LEN * j..CHUNK_LEN * j + CHUNK_LEN];
-        assert_eq!(rt;
+        assert_same_for(
+            rt,
+            (j, bytes.len(), first),
             chainings[j],
             chunk_node(mode, first + j as u64, chunk).chaining(),
-            "chunk {j} of {} bytes from {first} on",
-            bytes.len()
         );
     }
 }
@@ -145,8 +138,8 @@ fn assert_chunks(rt: &impl Abort, mode: &Mode, first: u64, bytes: &[u8])
 // One to seven full chunks, and the blocks of another beside them, to no more than these and with a byte after them; also
 // where the counters' low words wrap between the halves of a pair.
 #[test]
-fn blocks_beside_one_to_seven_chunks(rt: HostRuntime) -> Result<(), Fail> {
-    let bytes = pattern(rt.alloc(), 8300)?;
+fn blocks_beside_one_to_seven_chunks(rt: HostRuntime) {
+    let bytes = pattern(&rt, 8300);
     for mode in four_modes() {
         for count in 1..8usize {
             for blocks in 0..16usize {
@@ -159,7 +152,6 @@ fn blocks_beside_one_to_seven_chunks(rt: HostRuntime) -> Result<(), Fail> {
             }
         }
     }
-    Ok(())
 }
 
 fn assert_beside(
@@ -205,13 +197,12 @@ const FIRST: u64 = 4_294_967_292;
 
 // The counters' low words wrap between lanes 3 and 4, and their high words rise there.
 #[test]
-fn tops_across_2_to_the_32(rt: HostRuntime) -> Result<(), Fail> {
-    let bytes = pattern(rt.alloc(), 65536)?;
+fn tops_across_2_to_the_32(rt: HostRuntime) {
+    let bytes = pattern(&rt, 65536);
     for len in [8192usize, 65536] {
         let (part, _) = bytes.split_at(len);
         assert_same_top(&rt, &Mode::keyed(KEY), FIRST, part);
     }
-    Ok(())
 }
 
 // Also where the counters' low words wrap, and up to the last counter.

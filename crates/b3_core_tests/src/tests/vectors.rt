@@ -1,8 +1,9 @@
 // The official test vectors, which are published with BLAKE3's reference code: the first 32 output bytes.
 
-ghost use Rattle.std.specs.Prelude.{◌≡◌, IfOk, vec_len};
+ghost use Rattle.std.specs.Prelude.{◌≡◌, vec_len};
 
-use std::alloc::{AllocError, Global};
+use std::alloc::AllocGlobal;
+use std::process::Abort;
 
 // Numbers of bytes, and their digests.
 const DIGESTS: &[(usize, &str)] = &[
@@ -131,22 +132,21 @@ pub(super) const DERIVED_DIGEST_OF_0: &str =
     "2cc39783c223154fea8dfb7c1b1660f2ac2dcbd1c1de8277b0b0dd39b7e50d7d";
 
 // The bytes of the inputs: `i mod 251`.
-pub(super) fn pattern(alloc: Global, len: usize) -> Result<Vec<u8>, AllocError>
-    ensures { IfOk result (λ v. vec_len v ≡ len) }
+pub(super) fn pattern<R: AllocGlobal + Abort>(rt: &R, len: usize) -> Vec<u8>
+    ensures { vec_len result ≡ len }
 {
-    let mut bytes = Vec::with_capacity(alloc, len)?;
+    let mut bytes = Vec::with_capacity(rt.alloc(), len).expect(rt, "memory");
     for i in 0..len {
-        bytes.push((i % 251) as u8)?;
+        bytes.push((i % 251) as u8).expect(rt, "memory");
     }
-    Ok(bytes)
+    bytes
 }
 
 // Lower-case hexadecimal digits.
-pub(super) fn hex(alloc: Global, bytes: &[u8]) -> Result<String, AllocError> {
-    let mut digits = String::new(alloc);
+pub(super) fn hex<R: AllocGlobal + Abort>(rt: &R, bytes: &[u8]) -> String {
+    let mut digits = String::new(rt.alloc());
     for byte in bytes {
-        let pair = format!(in alloc; "{byte:02x}")?;
-        digits.push_str(pair.as_str())?;
+        write!(digits, "{byte:02x}").expect(rt, "memory");
     }
-    Ok(digits)
+    digits
 }
