@@ -1,19 +1,17 @@
 // The files of a shelf of real files.
 
 use super::asserts::assert_that;
-use super::fakes::{Reads, System};
+use super::fakes::{Reads, System, rest_from};
 use super::steps::Step::{Begin, HashWhole, Lacks, LenHint, Read, ReadAt, Rest};
 use super::steps::{assert_files, assert_real, digest_of};
 use b3_check::{CannotRead, NoContent};
 use b3_core::Mode;
 use b3_files::NamedFile;
 use b3_hash::Hasher;
-use std::alloc::{AllocError, Global};
 use std::fs::File;
-use std::io::Read as _;
+use std::io;
 use std::process::Abort;
 use std::rt::Files;
-use std::test::Fail;
 
 // The program that runs: a plain file of some length.
 pub const OWN_PROGRAM: &str = "/proc/self/exe";
@@ -40,35 +38,26 @@ fn assert_opened<'x>(rt: &'x impl Abort, name: &'x str) {
     );
 }
 
-#[test]
-fn the_named_file_is_opened(rt: HostRuntime) -> Result<(), AllocError> {
-    let mut long = String::new(rt.alloc());
-    for _ in 0..10_000usize {
-        long.push_str("/a")?;
+// So many of these characters, one after the other.
+fn repeated(rt: &(impl AllocGlobal + Abort), characters: &str, times: usize) -> String {
+    let mut text = String::new(rt.alloc());
+    for _ in 0..times {
+        text.push_str(characters).expect(rt, "memory");
     }
-    for name in [
-        "a",
-        " a",
-        "a ",
-        " a ",
-        "\ta\n",
-        "a\r",
-        "a/",
-        "./a",
-        "a//b",
-        "a/../b",
-        "./-",
-        "--",
-        "-a",
-        "--check",
-        "\u{e9}",
-        "a\\nb",
-        " ",
-        long.as_str(),
-    ] {
+    text
+}
+
+const NAMES: [&str; 17] = [
+    "a", " a", "a ", " a ", "\ta\n", "a\r", "a/", "./a", "a//b", "a/../b", "./-", "--", "-a",
+    "--check", "\u{e9}", "a\\nb", " ",
+];
+
+#[test]
+fn the_named_file_is_opened(rt: HostRuntime) {
+    for name in NAMES {
         assert_opened(&rt, name);
     }
-    Ok(())
+    assert_opened(&rt, repeated(&rt, "/a", 10_000).as_str());
 }
 
 #[test]
@@ -78,11 +67,8 @@ fn a_folder_is_no_file(rt: HostRuntime) {
 
 // What should be a folder on its way is a file; and a name that is too long is no missing one.
 #[test]
-fn a_name_below_a_file_is_missing(rt: HostRuntime) -> Result<(), AllocError> {
-    let mut long = String::new(rt.alloc());
-    for _ in 0..5_000usize {
-        long.push_str("x")?;
-    }
+fn a_name_below_a_file_is_missing(rt: HostRuntime) {
+    let long = repeated(&rt, "x", 5_000);
     assert_real(
         &rt,
         &[
@@ -91,7 +77,6 @@ fn a_name_below_a_file_is_missing(rt: HostRuntime) -> Result<(), AllocError> {
             Begin(long.as_str(), Err(NoContent::CannotRead)),
         ],
     );
-    Ok(())
 }
 
 // The digest of "Linux" and a line feed, by another implementation.
@@ -123,11 +108,8 @@ fn a_plain_file_alone_is_looked_at(rt: HostRuntime) {
 
 // Why names give no content. The input, what may wait, a file that can be read and a name that is too long give none.
 #[test]
-fn why_a_real_name_gives_no_content(rt: HostRuntime) -> Result<(), AllocError> {
-    let mut long = String::new(rt.alloc());
-    for _ in 0..5_000usize {
-        long.push_str("x")?;
-    }
+fn why_a_real_name_gives_no_content(rt: HostRuntime) {
+    let long = repeated(&rt, "x", 5_000);
     assert_real(
         &rt,
         &[
@@ -140,29 +122,44 @@ fn why_a_real_name_gives_no_content(rt: HostRuntime) -> Result<(), AllocError> {
             Lacks(long.as_str(), None),
         ],
     );
-    Ok(())
+}
+
+/// The program that runs, opened to be read in order.
+pub fn opened_program<R: Files + Abort>(rt: &R) -> R::File {
+    File::open(rt, OWN_PROGRAM).expect(rt, "the program that runs")
+}
+
+// Reads the next bytes of a file, and tells whether there are some.
+fn read_piece<F: io::Read>(rt: &impl Abort, file: &mut F, content: &mut Vec<u8>) -> bool {
+    let mut buffer = [0; 4_096];
+    let count = file.read(&mut buffer).expect(rt, "a read");
+    let piece = &buffer[..count.min(4_096)];
+    content.extend_from_slice(piece).expect(rt, "memory");
+    count > 0
 }
 
 // The bytes of the program that runs, read in order.
-pub fn own_program<R: Files + AllocGlobal>(rt: &R) -> Result<Vec<u8>, Fail> {
-    let mut file = File::open(rt, OWN_PROGRAM)?;
+pub fn own_program<R: Files + AllocGlobal + Abort>(rt: &R) -> Vec<u8> {
+    let mut file = opened_program(rt);
     let mut content = Vec::new(rt.alloc());
-    let mut buffer = [0; 4_096];
     for _ in 0..1_000_000u64 {
-        let count = file.read(&mut buffer)?.min(4_096);
-        if count == 0 {
+        if !read_piece(rt, &mut file, &mut content) {
             break;
         }
-        content.extend_from_slice(&buffer[..count])?;
     }
-    Ok(content)
+    content
+}
+
+// A hasher of these bytes.
+fn hasher_of(rt: &impl Abort, content: &[u8]) -> Hasher {
+    let mut hasher = Hasher::new(Mode::hash());
+    hasher.update(content).expect(rt, "a length below 2^64");
+    hasher
 }
 
 #[test]
-fn a_file_is_looked_at_piece_by_piece(rt: HostRuntime) -> Result<(), Fail> {
-    let content = own_program(&rt)?;
-    let mut hasher = Hasher::new(Mode::hash());
-    hasher.update(content.as_slice())?;
+fn a_file_is_looked_at_piece_by_piece(rt: HostRuntime) {
+    let hasher = hasher_of(&rt, own_program(&rt).as_slice());
     let len = hasher.len();
     assert_that(&rt, len > 100_000);
     assert_real(
@@ -172,13 +169,12 @@ fn a_file_is_looked_at_piece_by_piece(rt: HostRuntime) -> Result<(), Fail> {
             HashWhole(OWN_PROGRAM, len - 1, None),
         ],
     );
-    Ok(())
 }
 
 // A file gives at its offsets what it gives in order, and stays where it is.
 #[test]
-fn a_file_is_read_at_its_offsets(rt: HostRuntime) -> Result<(), Fail> {
-    let content = own_program(&rt)?;
+fn a_file_is_read_at_its_offsets(rt: HostRuntime) {
+    let content = own_program(&rt);
     let content = content.as_slice();
     assert_that(&rt, content.len() > 16);
     assert_real(
@@ -191,7 +187,6 @@ fn a_file_is_read_at_its_offsets(rt: HostRuntime) -> Result<(), Fail> {
             Read(8, Ok(&content[8..16])),
         ],
     );
-    Ok(())
 }
 
 #[test]
@@ -218,12 +213,12 @@ pub const DIGEST: &[u8; 32] = b"\xd0\x02\x78\xae\x47\xeb\x27\xb3\x4f\xae\xcf\x67
       \x82\xd5\x41\x29\x16\xc1\xff\xd9\x7c\x8c\xb7\xfb\x81\x4b\x84\x44";
 
 // So many bytes: 0 to 250, over and over.
-pub fn counted(alloc: Global, count: u64) -> Result<Vec<u8>, AllocError> {
-    let mut content = Vec::new(alloc);
+pub fn counted(rt: &(impl AllocGlobal + Abort), count: u64) -> Vec<u8> {
+    let mut content = Vec::new(rt.alloc());
     for k in 0..count {
-        content.push((k % 251) as u8)?;
+        content.push((k % 251) as u8).expect(rt, "memory");
     }
-    Ok(content)
+    content
 }
 
 // What is read of 1,025 bytes, of which each read gives one.
@@ -239,10 +234,10 @@ fn assert_bytewise<'x>(rt: &'x impl Abort, content: &'x [u8]) {
             Begin("a", Ok(())),
             Read(8, Ok(&content[..1])),
             LenHint(1_024),
-            ReadAt(0, Some(&content[1..])),
-            ReadAt(23, Some(&content[24..])),
-            ReadAt(24, Some(&content[25..])),
-            ReadAt(1_020, Some(&content[1_021..])),
+            ReadAt(0, Some(rest_from(content, 1))),
+            ReadAt(23, Some(rest_from(content, 24))),
+            ReadAt(24, Some(rest_from(content, 25))),
+            ReadAt(1_020, Some(rest_from(content, 1_021))),
             ReadAt(1_024, Some(b"")),
             ReadAt(1_025, Some(b"")),
         ],
@@ -250,8 +245,6 @@ fn assert_bytewise<'x>(rt: &'x impl Abort, content: &'x [u8]) {
 }
 
 #[test]
-fn a_read_at_an_offset_is_made_again_until_the_buffer_is_full(rt: HostRuntime) -> Result<(), Fail> {
-    let content = counted(rt.alloc(), 1_025)?;
-    assert_bytewise(&rt, content.as_slice());
-    Ok(())
+fn a_read_at_an_offset_is_made_again_until_the_buffer_is_full(rt: HostRuntime) {
+    assert_bytewise(&rt, counted(&rt, 1_025).as_slice());
 }

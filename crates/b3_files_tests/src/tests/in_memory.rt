@@ -7,7 +7,8 @@ use super::steps::assert_shelf;
 use crate::in_memory::sum_one;
 use b3_check::{MemorySink, NoContent};
 use b3_files::{MemoryDisk, MemoryFile, NamedFile};
-use std::test::Fail;
+use std::alloc::Global;
+use std::process::Abort;
 
 const FILES: [NamedFile<'static>; 2] = [
     NamedFile {
@@ -34,12 +35,16 @@ fn what_is_known_before_the_turn_of_a_name(rt: HostRuntime) {
     assert_shelf(&rt, MemoryDisk::new(&FILES), MemoryFile::new(b""), &steps);
 }
 
+fn name_of(rt: &impl Abort, alloc: Global, name: &str) -> String {
+    String::from_str(alloc, name).expect(rt, "memory")
+}
+
 #[test]
-fn a_name_has_its_line(rt: HostRuntime) -> Result<(), Fail> {
+fn a_name_has_its_line(rt: HostRuntime) {
     let alloc = rt.alloc();
     let mut out = MemorySink::new(alloc);
     let mut err = MemorySink::new(alloc);
-    let name = String::from_str(alloc, "abc")?;
+    let name = name_of(&rt, alloc, "abc");
     let answer = sum_one(&rt, alloc, &FILES, b"", name, &mut out, &mut err);
     assert_that(
         &rt,
@@ -48,5 +53,4 @@ fn a_name_has_its_line(rt: HostRuntime) -> Result<(), Fail> {
     let line = b"6437b3ac38465133ffb63b75273a8db548c558465d79db03fd359c6cd5bd9d85  abc\n";
     assert_same(&rt, out.bytes(), line.as_slice());
     assert_that(&rt, err.bytes().is_empty());
-    Ok(())
 }

@@ -3,14 +3,14 @@
 ghost use Rattle.std.specs.Prelude.{◌<◌};
 
 use super::asserts::{assert_same, assert_same_for, assert_that, assert_that_for};
+use super::fakes::rest_from;
 use super::files::counted;
 use b3_check::Shelf;
 use b3_files::{FileShelf, Input, MemoryDisk, MemoryFile, Stream};
-use std::alloc::{AllocError, Global};
+use std::alloc::Global;
 use std::io::{self, ErrorKind};
 use std::process::Abort;
 use std::sync::atomic::{AtomicBool, AtomicU64, Ordering};
-use std::test::Fail;
 use std::thread::{Threads, for_each_mut};
 
 /// What befell an input.
@@ -68,9 +68,16 @@ impl Moves {
     }
 
     fn let_go(&self) {
-        let position = self.position.load(Ordering::SeqCst);
-        self.position_then.store(position, Ordering::SeqCst);
+        self.position_then.store(self.position(), Ordering::SeqCst);
         self.is_held.store(false, Ordering::SeqCst);
+    }
+
+    fn position(&self) -> u64 {
+        self.position.load(Ordering::SeqCst)
+    }
+
+    fn position_then(&self) -> u64 {
+        self.position_then.load(Ordering::SeqCst)
     }
 }
 
@@ -122,6 +129,13 @@ const LEN: u64 = 250_000;
 
 const LENS: [usize; 7] = [2, 65_535, 65_536, 65_537, 0, 200_000, 300_000];
 
+// A buffer of so many bytes, each of them this one.
+fn buffer_of(rt: &impl Abort, alloc: Global, len: usize, byte: u8) -> Vec<u8> {
+    let mut buffer = Vec::new(alloc);
+    buffer.resize(len, byte).expect(rt, "memory");
+    buffer
+}
+
 // The file's bytes from this offset on are read, as far as there are some.
 fn assert_filled<S: Shelf>(
     rt: &impl Abort,
@@ -130,15 +144,13 @@ fn assert_filled<S: Shelf>(
     content: &[u8],
     offset: usize,
     len: usize,
-) -> Result<(), AllocError> {
-    let rest = &content[offset.min(content.len())..];
+) {
+    let rest = rest_from(content, offset as u64);
     let wanted = &rest[..len.min(rest.len())];
-    let mut buffer = Vec::new(alloc);
-    buffer.resize(len, 0xfe)?;
+    let mut buffer = buffer_of(rt, alloc, len, 0xfe);
     let given = shelf.read_at(offset as u64, buffer.as_mut_slice());
     assert_same_for(rt, (len, offset), given, Some(wanted.len()));
     assert_that_for(rt, (len, offset), buffer.as_slice().starts_with(wanted));
-    Ok(())
 }
 
 // A shelf whose input is this one, at its beginning.
@@ -148,32 +160,44 @@ fn begun<'a>(rt: &impl Abort, input: Endless<'a>) -> FileShelf<MemoryDisk<'a>, E
     shelf
 }
 
-#[test]
-fn each_read_moves_the_position_by_its_length(rt: HostRuntime) -> Result<(), Fail> {
-    let content = counted(rt.alloc(), LEN)?;
-    for offset in [0, 1, 49_999, 184_463, 184_464, 184_465, 250_000] {
-        let moves = Moves::plain();
-        let file = content.as_slice();
-        let input = Endless {
-            file,
-            moves: &moves,
-        };
-        let shelf = begun(&rt, input);
-        let mut due = 0u64;
-        for len in LENS {
-            assert_filled(&rt, rt.alloc(), &shelf, file, offset, len)?;
-            due = due.wrapping_add(len as u64);
-            assert_same(&rt, moves.position.load(Ordering::SeqCst), due);
-        }
+// Each of these reads at an offset moves the position by its length.
+fn assert_moved_by_lens<S: Shelf>(
+    rt: &impl Abort,
+    alloc: Global,
+    shelf: &S,
+    file: &[u8],
+    offset: usize,
+    moves: &Moves,
+) {
+    let mut due = 0u64;
+    for len in LENS {
+        assert_filled(rt, alloc, shelf, file, offset, len);
+        due = due.wrapping_add(len as u64);
+        assert_same(rt, moves.position(), due);
     }
-    Ok(())
+}
+
+fn assert_moved_at(rt: &impl Abort, alloc: Global, file: &[u8], offset: usize) {
+    let moves = Moves::plain();
+    let input = Endless {
+        file,
+        moves: &moves,
+    };
+    assert_moved_by_lens(rt, alloc, &begun(rt, input), file, offset, &moves);
+}
+
+#[test]
+fn each_read_moves_the_position_by_its_length(rt: HostRuntime) {
+    let content = counted(&rt, LEN);
+    for offset in [0, 1, 49_999, 184_463, 184_464, 184_465, 250_000] {
+        assert_moved_at(&rt, rt.alloc(), content.as_slice(), offset);
+    }
 }
 
 // What a read of a shelf's input gives.
-fn given_by<S: Shelf>(alloc: Global, shelf: &S) -> Result<Option<usize>, AllocError> {
-    let mut buffer = Vec::new(alloc);
-    buffer.resize(200_000, 0)?;
-    Ok(shelf.read_at(0, buffer.as_mut_slice()))
+fn given_by<S: Shelf>(rt: &impl Abort, alloc: Global, shelf: &S) -> Option<usize> {
+    let mut buffer = buffer_of(rt, alloc, 200_000, 0);
+    shelf.read_at(0, buffer.as_mut_slice())
 }
 
 // What that read gives, and how many reads of the input there were, where one of them fails after so many.
@@ -182,31 +206,34 @@ fn read_failing_after(
     alloc: Global,
     file: &[u8],
     before_fault: u64,
-) -> Result<(Option<usize>, u64), AllocError> {
+) -> (Option<usize>, u64) {
     let moves = Moves::failing_after(before_fault);
     let input = Endless {
         file,
         moves: &moves,
     };
-    let given = given_by(alloc, &begun(rt, input))?;
-    Ok((given, moves.calls.load(Ordering::SeqCst)))
+    let given = given_by(rt, alloc, &begun(rt, input));
+    (given, moves.calls.load(Ordering::SeqCst))
+}
+
+// How many reads of the input there are where none fails.
+fn calls_without_a_fault(rt: &impl Abort, alloc: Global, file: &[u8]) -> u64 {
+    let (given, calls) = read_failing_after(rt, alloc, file, u64::MAX);
+    assert_that(rt, given == Some(200_000) && 1 <= calls && calls < 1_000);
+    calls
+}
+
+fn assert_fails_after(rt: &impl Abort, alloc: Global, file: &[u8], before_fault: u64) {
+    let (given, _calls) = read_failing_after(rt, alloc, file, before_fault);
+    assert_same(rt, given, None);
 }
 
 #[test]
-fn each_read_that_moves_the_position_fails(rt: HostRuntime) -> Result<(), Fail> {
-    let content = counted(rt.alloc(), LEN)?;
-    let (given, calls) = read_failing_after(&rt, rt.alloc(), content.as_slice(), u64::MAX)?;
-    assert_that(&rt, given == Some(200_000) && 1 <= calls && calls < 1_000);
-    for before_fault in 0..calls {
-        let (given, _calls) = read_failing_after(
-            &rt,
-            rt.alloc(),
-            content.as_slice(),
-            before_fault,
-        )?;
-        assert_same(&rt, given, None);
+fn each_read_that_moves_the_position_fails(rt: HostRuntime) {
+    let content = counted(&rt, LEN);
+    for before_fault in 0..calls_without_a_fault(&rt, rt.alloc(), content.as_slice()) {
+        assert_fails_after(&rt, rt.alloc(), content.as_slice(), before_fault);
     }
-    Ok(())
 }
 
 // How many bytes each of many workers reads, at an offset of its own.
@@ -214,6 +241,9 @@ const PART_LEN: usize = 70_000;
 
 // How many there are: one of two threads reads half of them.
 const PARTS: usize = 40;
+
+// How many bytes these are.
+const ALL_LEN: u64 = (PARTS * PART_LEN) as u64;
 
 const LENS_OF_PARTS: [usize; PARTS] = [PART_LEN; PARTS];
 
@@ -248,12 +278,13 @@ fn fill_parts<R: Threads + Sync, S: Shelf + Sync>(
 }
 
 // So many zeros for each part.
-fn parts_of(alloc: Global, lens: &[usize]) -> Result<Vec<Vec<u8>>, AllocError> {
+fn parts_of(rt: &impl Abort, alloc: Global, lens: &[usize]) -> Vec<Vec<u8>> {
     let mut parts = Vec::new(alloc);
     for len in lens {
-        parts.push(vec![in alloc; 0u8; *len]?)?;
+        let part = buffer_of(rt, alloc, *len, 0);
+        parts.push(part).expect(rt, "memory");
     }
-    Ok(parts)
+    parts
 }
 
 // Reads the parts of a shelf's file.
@@ -281,23 +312,22 @@ fn read_parts<R: Threads + Abort + Sync>(
     lens: &[usize],
     threads: usize,
     moves: &Moves,
-) -> Result<(), AllocError>
+)
     requires { 0 < threads }
 {
-    let mut parts = parts_of(alloc, lens)?;
+    let mut parts = parts_of(rt, alloc, lens);
     let input = Endless {
         file: content,
         moves,
     };
     let shelf = begun(rt, input);
     assert_parts(rt, &shelf, content, parts.as_mut_slice(), threads, moves);
-    Ok(())
 }
 
 // Each part is moved once, whoever moves it, and nothing is due when all have ended.
 #[test]
-fn many_threads_move_the_position_by_all_that_they_read(rt: HostRuntime) -> Result<(), Fail> {
-    let content = counted(rt.alloc(), (PARTS * PART_LEN) as u64)?;
+fn many_threads_move_the_position_by_all_that_they_read(rt: HostRuntime) {
+    let content = counted(&rt, ALL_LEN);
     for threads in [1, 2, 4, 8] {
         let moves = Moves::plain();
         read_parts(
@@ -307,17 +337,15 @@ fn many_threads_move_the_position_by_all_that_they_read(rt: HostRuntime) -> Resu
             &LENS_OF_PARTS,
             threads,
             &moves,
-        )?;
-        let position = moves.position.load(Ordering::SeqCst);
-        assert_same_for(&rt, threads, position, (PARTS * PART_LEN) as u64);
+        );
+        assert_same_for(&rt, threads, moves.position(), ALL_LEN);
     }
-    Ok(())
 }
 
 // While a read of the input takes long, calls leave what they read to it, and later ones move the position themselves.
 #[test]
-fn no_call_waits_for_the_one_that_moves_the_position(rt: HostRuntime) -> Result<(), Fail> {
-    let content = counted(rt.alloc(), (PARTS * PART_LEN) as u64)?;
+fn no_call_waits_for_the_one_that_moves_the_position(rt: HostRuntime) {
+    let content = counted(&rt, ALL_LEN);
     let moves = Moves::holding();
     read_parts(
         &rt,
@@ -326,24 +354,21 @@ fn no_call_waits_for_the_one_that_moves_the_position(rt: HostRuntime) -> Result<
         &LENS_OF_PARTS,
         2,
         &moves,
-    )?;
+    );
     assert_that(&rt, !moves.is_held.load(Ordering::SeqCst));
-    let position_then = moves.position_then.load(Ordering::SeqCst);
-    let half = (PARTS / 2 * PART_LEN) as u64;
+    let position_then = moves.position_then();
     assert_that_for(
         &rt,
         position_then,
-        0 < position_then && position_then < half,
+        0 < position_then && position_then < ALL_LEN / 2,
     );
-    let position = moves.position.load(Ordering::SeqCst);
-    assert_same(&rt, position, (PARTS * PART_LEN) as u64);
-    Ok(())
+    assert_same(&rt, moves.position(), ALL_LEN);
 }
 
 // Nothing is left to a call with a short buffer: what is read beside it is moved while it is held.
 #[test]
-fn a_short_read_moves_the_position_for_itself(rt: HostRuntime) -> Result<(), Fail> {
-    let content = counted(rt.alloc(), 2 * PART_LEN as u64)?;
+fn a_short_read_moves_the_position_for_itself(rt: HostRuntime) {
+    let content = counted(&rt, 2 * PART_LEN as u64);
     let moves = Moves::holding();
     read_parts(
         &rt,
@@ -352,10 +377,7 @@ fn a_short_read_moves_the_position_for_itself(rt: HostRuntime) -> Result<(), Fai
         &[1, PART_LEN],
         2,
         &moves,
-    )?;
-    let position_then = moves.position_then.load(Ordering::SeqCst);
-    assert_same(&rt, position_then, PART_LEN as u64);
-    let position = moves.position.load(Ordering::SeqCst);
-    assert_same(&rt, position, PART_LEN as u64 + 1);
-    Ok(())
+    );
+    assert_same(&rt, moves.position_then(), PART_LEN as u64);
+    assert_same(&rt, moves.position(), PART_LEN as u64 + 1);
 }

@@ -4,8 +4,8 @@ ghost use Rattle.std.specs.Prelude.{◌≡◌, ◌^◌, ◌<◌};
 
 use super::asserts::assert_same;
 use super::files::FOUR;
-use super::steps::{Asked, Step};
-use b3_check::{MemoryShelf, NoContent, Shelf, Sink};
+use super::steps::{Asked, Step, shelf_of};
+use b3_check::{NoContent, Shelf, Sink};
 use b3_files::{
     ClearingSink, CountingShelf, FileShelf, MemoryDisk, MemoryFile, NamedFile, OutputSink,
 };
@@ -15,7 +15,6 @@ use std::cell::{Cell, RefCell};
 use std::io::{self, ErrorKind, Write};
 use std::process::Abort;
 use std::rt::Clock;
-use std::test::Fail;
 use std::time::Duration;
 
 const GIB: u64 = 1 << 30;
@@ -48,64 +47,69 @@ const MOST: Counts = Counts {
     millis: u64::MAX,
 };
 
+// A line for each of these counts and names.
+const ROWS: [(Counts, &str, &str); 8] = [
+    (NOTHING, "a", "0 B, 0 B/s, 0 of 1: a"),
+    (
+        HALF,
+        "a",
+        "512.0 MiB of 1.0 GiB, 50%, 512.0 MiB/s, 0:01 left, 3 of 4: a",
+    ),
+    // The lengths of three names are not known.
+    (
+        Counts {
+            known_names: 1,
+            ..HALF
+        },
+        "a",
+        "512.0 MiB of ~4.0 GiB, 12%, 512.0 MiB/s, 0:07 left, 3 of 4: a",
+    ),
+    // A pipe tells no length.
+    (
+        Counts {
+            known_bytes: 0,
+            ..HALF
+        },
+        "a",
+        "512.0 MiB, 512.0 MiB/s, 3 of 4: a",
+    ),
+    (
+        Counts {
+            known_bytes: 10_000 * GIB + 1_023,
+            ..HALF
+        },
+        "a",
+        "512.0 MiB of 9.7 TiB, 0%, 512.0 MiB/s, 5:33:19 left, 3 of 4: a",
+    ),
+    // The end of a name, what moves the cursor, and characters of two columns, of which none is cut.
+    (
+        HALF,
+        "folder/name of a file\n\u{1b}",
+        "512.0 MiB of 1.0 GiB, 50%, 512.0 MiB/s, 0:01 left, 3 of 4: der/name of a file??",
+    ),
+    (
+        HALF,
+        "一二三四五六七八九十一二三四.",
+        "512.0 MiB of 1.0 GiB, 50%, 512.0 MiB/s, 0:01 left, 3 of 4: 六七八九十一二三四.",
+    ),
+    // The greatest numbers: the line is cut.
+    (
+        MOST,
+        "a",
+        "163.8 PiB of 15.9 EiB, 0%, 1 B/s, 5072854620270126:41:39 left, 1844674407370955",
+    ),
+];
+
+fn assert_line(rt: &(impl AllocGlobal + Abort), counts: &Counts, name: &str, text: &str) {
+    let line = progress_line(rt.alloc(), counts, name).expect(rt, "memory");
+    assert_same(rt, line.as_str(), text);
+}
+
 #[test]
-fn lines(rt: HostRuntime) -> Result<(), Fail> {
-    let rows = [
-        (NOTHING, "a", "0 B, 0 B/s, 0 of 1: a"),
-        (
-            HALF,
-            "a",
-            "512.0 MiB of 1.0 GiB, 50%, 512.0 MiB/s, 0:01 left, 3 of 4: a",
-        ),
-        // The lengths of three names are not known.
-        (
-            Counts {
-                known_names: 1,
-                ..HALF
-            },
-            "a",
-            "512.0 MiB of ~4.0 GiB, 12%, 512.0 MiB/s, 0:07 left, 3 of 4: a",
-        ),
-        // A pipe tells no length.
-        (
-            Counts {
-                known_bytes: 0,
-                ..HALF
-            },
-            "a",
-            "512.0 MiB, 512.0 MiB/s, 3 of 4: a",
-        ),
-        (
-            Counts {
-                known_bytes: 10_000 * GIB + 1_023,
-                ..HALF
-            },
-            "a",
-            "512.0 MiB of 9.7 TiB, 0%, 512.0 MiB/s, 5:33:19 left, 3 of 4: a",
-        ),
-        // The end of a name, what moves the cursor, and characters of two columns, of which none is cut.
-        (
-            HALF,
-            "folder/name of a file\n\u{1b}",
-            "512.0 MiB of 1.0 GiB, 50%, 512.0 MiB/s, 0:01 left, 3 of 4: der/name of a file??",
-        ),
-        (
-            HALF,
-            "一二三四五六七八九十一二三四.",
-            "512.0 MiB of 1.0 GiB, 50%, 512.0 MiB/s, 0:01 left, 3 of 4: 六七八九十一二三四.",
-        ),
-        // The greatest numbers: the line is cut.
-        (
-            MOST,
-            "a",
-            "163.8 PiB of 15.9 EiB, 0%, 1 B/s, 5072854620270126:41:39 left, 1844674407370955",
-        ),
-    ];
-    for (counts, name, text) in rows {
-        let line = progress_line(rt.alloc(), &counts, name)?;
-        assert_same(&rt, line.as_str(), text);
+fn lines(rt: HostRuntime) {
+    for (counts, name, text) in ROWS {
+        assert_line(&rt, &counts, name, text);
     }
-    Ok(())
 }
 
 // A clock that goes on by 150 milliseconds each time that it is read.
@@ -197,16 +201,15 @@ fn count_and_say<S: Shelf, K: Sink, C: Clock, W: Write>(
 
 // One line in a fifth of a second, which goes away before anything else is written.
 #[test]
-fn a_line_comes_and_goes(rt: HostRuntime) -> Result<(), Fail> {
+fn a_line_comes_and_goes(rt: HostRuntime) {
     let alloc = rt.alloc();
-    let mut files = MemoryShelf::new(alloc);
-    files.put("a", b"bytes")?;
     let written = RefCell::new(String::new(alloc));
     let screen = Screen { written: &written };
     let clock = StepClock {
         millis: Cell::new(0),
     };
     let progress = Progress::new(alloc, clock, screen, true);
+    let files = shelf_of(&rt, alloc, "a", b"bytes");
     let mut shelf = Asked::new(CountingShelf::new(alloc, files, &progress));
     let output = OutputSink::new(Screen { written: &written });
     let mut sink = ClearingSink::new(&rt, output, true, &progress);
@@ -217,13 +220,26 @@ fn a_line_comes_and_goes(rt: HostRuntime) -> Result<(), Fail> {
                \r5 B of ~10 B, 50%, 6 B/s, 0:00 left, 0 of 2: a\x1b[K\
                \r\x1b[K";
     assert_written(&rt, &written, due);
-    Ok(())
 }
+
+const STEPS: [Step<'static>; 11] = [
+    Step::Expect(4),
+    Step::HashWhole("a", 10, Some(FOUR)),
+    Step::HashWhole("missing", 10, None),
+    Step::Lacks("missing", Some(NoContent::Missing)),
+    Step::HashWhole("b", 10, None),
+    Step::Lacks("b", None),
+    Step::HashWhole("c", 2, None),
+    Step::Lacks("c", None),
+    Step::Begin("b", Ok(())),
+    Step::ReadAt(6, Some(b" bytes")),
+    Step::ReadAt(8, Some(b"ytes")),
+];
 
 // A name that was read whole before its turn is done, and so is one that is missing; those that are too long for that
 // wait, and tell their lengths.
 #[test]
-fn names_before_their_turn(rt: HostRuntime) -> Result<(), Fail> {
+fn names_before_their_turn(rt: HostRuntime) {
     let alloc = rt.alloc();
     let written = RefCell::new(String::new(alloc));
     let screen = Screen { written: &written };
@@ -233,24 +249,10 @@ fn names_before_their_turn(rt: HostRuntime) -> Result<(), Fail> {
     let progress = Progress::new(alloc, clock, screen, true);
     progress.show_if(true);
     let files = FileShelf::new(MemoryDisk::new(&FILES), MemoryFile::new(b""));
-    let steps = [
-        Step::Expect(4),
-        Step::HashWhole("a", 10, Some(FOUR)),
-        Step::HashWhole("missing", 10, None),
-        Step::Lacks("missing", Some(NoContent::Missing)),
-        Step::HashWhole("b", 10, None),
-        Step::Lacks("b", None),
-        Step::HashWhole("c", 2, None),
-        Step::Lacks("c", None),
-        Step::Begin("b", Ok(())),
-        Step::ReadAt(6, Some(b" bytes")),
-        Step::ReadAt(8, Some(b"ytes")),
-    ];
-    assert_counted(&rt, alloc, files, &progress, &steps);
+    assert_counted(&rt, alloc, files, &progress, &STEPS);
     let due = "\r4 B of ~16 B, 25%, 13 B/s, 0:00 left, 1 of 4: a\x1b[K\
                \r14 B of 19 B, 73%, 18 B/s, 0:00 left, 2 of 4: b\x1b[K";
     assert_written(&rt, &written, due);
-    Ok(())
 }
 
 const FILES: [NamedFile<'static>; 3] = [

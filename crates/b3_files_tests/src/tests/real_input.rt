@@ -1,58 +1,77 @@
 // The real input: a plain file is opened anew, and stands where it stood.
 
 use super::asserts::{assert_same, assert_that};
-use super::files::{OWN_PROGRAM, own_program};
-use b3_files::{DiskFile, Input, InputPaths, RealInput, Stream};
-use std::alloc::{AllocError, Allocator};
-use std::fs::File;
-use std::io::Read;
+use super::files::{opened_program, own_program};
+use b3_files::{DiskFile, Input, InputPaths, RealInput};
+use std::io;
 use std::os::unix::fs::FileExt;
 use std::process::Abort;
 use std::rt::Files;
-use std::test::Fail;
 
-// The paths by which the system shows an open file of this number.
-fn shown<A: Allocator>(alloc: A, folder: &str, number: u64) -> Result<String<A>, AllocError> {
-    format!(in alloc; "/proc/self/{folder}/{number}")
+// The path by which the system shows something of an open file of this number.
+fn shown(rt: &(impl AllocGlobal + Abort), folder: &str, number: u64) -> String {
+    format!(in rt.alloc(); "/proc/self/{folder}/{number}").expect(rt, "memory")
 }
 
-// Whether the open file of this number stands 1,237 bytes on. It is opened anew then, and has this content.
-fn is_reopened<R: Files + AllocGlobal + Abort>(
-    rt: &R,
-    content: &[u8],
-    number: u64,
-) -> Result<bool, Fail>
+// A file has this content.
+fn assert_content<F: DiskFile>(rt: &impl Abort, file: &mut F, content: &[u8]) {
+    let mut buffer = [0; 1_237];
+    assert_same(rt, file.plain_len(), Some(content.len() as u64));
+    assert_same(rt, file.read(&mut buffer).expect(rt, "a read"), 1_237);
+    assert_that(rt, content.starts_with(&buffer));
+}
+
+// Whether the file at these paths stands 1,237 bytes on. It is opened anew then, and has this content.
+fn is_reopened_by<R: Files + Abort>(rt: &R, content: &[u8], paths: InputPaths<'_>) -> bool
 where
     R::File: FileExt,
 {
-    let file = shown(rt.alloc(), "fd", number)?;
-    let position = shown(rt.alloc(), "fdinfo", number)?;
+    let Some((mut file, 1_237)) = RealInput::new(rt, b"".as_slice(), paths).reopen() else {
+        return false;
+    };
+    assert_content(rt, &mut file, content);
+    true
+}
+
+// The same of the open file of this number.
+fn is_reopened<R: Files + AllocGlobal + Abort>(rt: &R, content: &[u8], number: u64) -> bool
+where
+    R::File: FileExt,
+{
+    let file = shown(rt, "fd", number);
+    let position = shown(rt, "fdinfo", number);
     let paths = InputPaths {
         file: file.as_str(),
         position: position.as_str(),
     };
-    let Some((mut file, 1_237)) = RealInput::new(rt, b"".as_slice(), paths).reopen() else {
-        return Ok(false);
-    };
-    let mut buffer = [0; 1_237];
-    assert_same(rt, file.plain_len(), Some(content.len() as u64));
-    assert_same(rt, file.read(&mut buffer)?, 1_237);
-    assert_that(rt, content.starts_with(&buffer));
-    Ok(true)
+    is_reopened_by(rt, content, paths)
+}
+
+// How many of the open files are opened anew.
+fn count_reopened<R: Files + AllocGlobal + Abort>(rt: &R, content: &[u8]) -> u64
+where
+    R::File: FileExt,
+{
+    let mut reopened = 0u64;
+    for number in 3..64 {
+        reopened = reopened.saturating_add(u64::from(is_reopened(rt, content, number)));
+    }
+    reopened
+}
+
+// Reads the first 1,237 bytes of a file.
+fn read_first<F: io::Read>(rt: &impl Abort, file: &mut F) {
+    let count = file.read(&mut [0; 1_237]).expect(rt, "a read");
+    assert_same(rt, count, 1_237);
 }
 
 // The number of the file is not known, but no other stands at this offset.
 #[test]
-fn a_real_input_is_opened_anew_at_its_position(rt: HostRuntime) -> Result<(), Fail> {
-    let content = own_program(&rt)?;
-    let mut opened = File::open(&rt, OWN_PROGRAM)?;
-    assert_same(&rt, opened.read(&mut [0; 1_237])?, 1_237);
-    let mut reopened = 0u64;
-    for number in 3..64 {
-        reopened = reopened.saturating_add(u64::from(is_reopened(&rt, &content, number)?));
-    }
-    assert_same(&rt, reopened, 1);
-    Ok(())
+fn a_real_input_is_opened_anew_at_its_position(rt: HostRuntime) {
+    let content = own_program(&rt);
+    let mut opened = opened_program(&rt);
+    read_first(&rt, &mut opened);
+    assert_same(&rt, count_reopened(&rt, content.as_slice()), 1);
 }
 
 #[test]

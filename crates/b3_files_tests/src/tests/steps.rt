@@ -5,10 +5,11 @@ ghost use Rattle.std.specs.Prelude.{◌≡◌, ◌≤◌};
 use super::asserts::{assert_same, assert_same_for, assert_that, assert_that_for};
 use super::fakes::{FakeFiles, Reads, SharedInput, System};
 use super::inputs::NOT_SHOWN;
-use b3_check::{CannotRead, NoContent, Shelf};
+use b3_check::{CannotRead, MemoryShelf, NoContent, Shelf};
 use b3_core::Mode;
 use b3_files::{Disk, FileShelf, Input, InputPaths, MemoryFile, RealDisk, RealInput};
 use b3_hash::Hasher;
+use std::alloc::Global;
 use std::os::unix::fs::FileExt;
 use std::process::Abort;
 use std::rt::Files;
@@ -79,6 +80,15 @@ fn assert_rest<S: Shelf>(rt: &impl Abort, shelf: &S, rest: &[u8]) {
         assert_rest_at(rt, shelf, rest, rest.len().saturating_sub(k));
         assert_rest_at(rt, shelf, rest, rest.len().saturating_add(k));
     }
+}
+
+/// A shelf in memory with one file.
+pub fn shelf_of(rt: &impl Abort, alloc: Global, name: &str, content: &[u8]) -> MemoryShelf
+    ensures { ⟦<MemoryShelf as Shelf>⟧.failures result ≡ 0 }
+{
+    let mut shelf = MemoryShelf::new(alloc);
+    shelf.put(name, content).expect(rt, "memory");
+    shelf
 }
 
 /// A shelf, and how often it was asked for what may fail.

@@ -3,15 +3,16 @@
 ghost use Rattle.std.specs.Prelude.{◌≡◌, ◌^◌, ◌<◌};
 
 use super::asserts::{assert_same, assert_that};
-use b3_check::{MemoryShelf, Shelf, Sink, write_all};
+use super::steps::shelf_of;
+use b3_check::{Shelf, Sink, write_all};
 use b3_files::{ClearingSink, CountingShelf, OutputSink};
 use b3_progress::Progress;
-use std::alloc::{AllocError, Global};
+use std::alloc::Global;
 use std::io::{self, ErrorKind, Write};
 use std::process::Abort;
 use std::rt::Clock;
 use std::sync::atomic::{AtomicBool, AtomicU64, Ordering};
-use std::sync::{Mutex, Wait};
+use std::sync::{Mutex, MutexGuard, Wait};
 use std::thread::{self, Threads};
 use std::time::Duration;
 
@@ -188,9 +189,8 @@ fn count_and_write<R: Threads + Wait + Abort + Sync>(
     alloc: Global,
     record: &Mutex<String>,
     is_beside: bool,
-) -> Result<(), AllocError> {
-    let mut files = MemoryShelf::new(alloc);
-    files.put("a", b"four")?;
+) {
+    let files = shelf_of(rt, alloc, "a", b"four");
     let progress = Progress::new(alloc, FastClock::new(), Line { record }, true);
     progress.show_if(true);
     let mut shelf = CountingShelf::new(alloc, files, &progress);
@@ -200,44 +200,37 @@ fn count_and_write<R: Threads + Wait + Abort + Sync>(
         progress.clear(rt);
         progress.clear(rt);
     }
-    Ok(())
 }
 
-fn assert_record(rt: &impl Abort, record: &Mutex<String>, wanted: &str) {
-    let Some(text) = record.try_lock() else {
-        assert!(rt; false, "it is still written");
-        return;
-    };
-    assert_same(rt, text.as_str(), wanted);
+// What is written.
+fn seen<'a>(rt: &impl Abort, record: &'a Mutex<String>) -> MutexGuard<'a, String> {
+    record.try_lock().expect(rt, "it is still written")
 }
 
 #[test]
-fn a_line_comes_between_those_of_an_output(rt: HostRuntime) -> Result<(), AllocError> {
+fn a_line_comes_between_those_of_an_output(rt: HostRuntime) {
     let written = Mutex::new(String::new(rt.alloc()));
-    count_and_write(&rt, rt.alloc(), &written, false)?;
-    assert_record(&rt, &written, "<>line\n<<>b\n<>");
-    Ok(())
+    count_and_write(&rt, rt.alloc(), &written, false);
+    assert_same(&rt, seen(&rt, &written).as_str(), "<>line\n<<>b\n<>");
 }
 
-// Each line of the output stands whole, and those of progress before it were erased.
-fn assert_whole(rt: &impl Abort, written: &Mutex<String>) {
-    let Some(written) = written.try_lock() else {
-        assert!(rt; false, "it is still written");
-        return;
-    };
-    let text = written.as_str();
+// A line of the output stands whole, and those of progress before it were erased.
+fn assert_whole_line(rt: &impl Abort, seen: &str) {
+    let (shown, line) = seen.split_once(ERASED).unwrap_or(("", seen));
+    assert_same(rt, line, LINE);
+    assert_that(rt, shown.chars().all(|character| character == SHOWN));
+}
+
+fn assert_whole(rt: &impl Abort, text: &str) {
     assert_same(rt, text.lines().count(), LINES);
-    for seen in text.lines() {
-        let (shown, line) = seen.split_once(ERASED).unwrap_or(("", seen));
-        assert_same(rt, line, LINE);
-        assert_that(rt, shown.chars().all(|character| character == SHOWN));
+    for line in text.lines() {
+        assert_whole_line(rt, line);
     }
 }
 
 #[test]
-fn a_thread_counts_while_an_output_writes(rt: HostRuntime) -> Result<(), AllocError> {
+fn a_thread_counts_while_an_output_writes(rt: HostRuntime) {
     let written = Mutex::new(String::new(rt.alloc()));
-    count_and_write(&rt, rt.alloc(), &written, true)?;
-    assert_whole(&rt, &written);
-    Ok(())
+    count_and_write(&rt, rt.alloc(), &written, true);
+    assert_whole(&rt, seen(&rt, &written).as_str());
 }

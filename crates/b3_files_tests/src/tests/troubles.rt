@@ -10,7 +10,6 @@ use b3_check::{CannotRead, NoContent};
 use b3_files::NamedFile;
 use std::process::Abort;
 use std::sync::atomic::AtomicU64;
-use std::test::Fail;
 
 const FILES: [NamedFile<'static>; 5] = [
     NamedFile {
@@ -225,12 +224,11 @@ fn assert_interrupted<'x>(
 }
 
 #[test]
-fn an_interrupted_read_at_an_offset_is_made_again(rt: HostRuntime) -> Result<(), Fail> {
-    let content = counted(rt.alloc(), 1_025)?;
+fn an_interrupted_read_at_an_offset_is_made_again(rt: HostRuntime) {
+    let content = counted(&rt, 1_025);
     for (interruptions, is_given) in INTERRUPTIONS {
         assert_interrupted(&rt, content.as_slice(), interruptions, is_given);
     }
-    Ok(())
 }
 
 // Else a file could get the number of a closed standard input, and few descriptors would not do for many names.
