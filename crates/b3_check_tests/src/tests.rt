@@ -14,6 +14,7 @@ mod lengths;
 mod lettered_files;
 mod memory;
 mod names;
+mod owned;
 mod recording;
 mod rendezvous;
 mod sums;
@@ -21,7 +22,7 @@ mod sums;
 use asserts::assert_same;
 use b3_check::{CheckOptions, Form, KeyChoice, RunFault, SumOptions, Tally};
 use std::alloc::Global;
-use std::test::Fail;
+use std::process::Abort;
 
 // The digest of no bytes.
 const EMPTY: &str = "af1349b9f5f9a1a6a0404dea36dcc9499bcb25c9adc112b7cc9a93cae41f3262";
@@ -81,18 +82,16 @@ fn check_options(quiet: bool, largest: u64) -> CheckOptions {
     }
 }
 
-// A text with this end, so often.
-fn repeated(alloc: Global, text: &str, end: &str, times: usize) -> Result<String, Fail> {
-    let mut all = String::new(alloc);
-    for _ in 0..times {
-        all.push_str(text)?;
-        all.push_str(end)?;
-    }
-    Ok(all)
+// The fault has this number, and its text is this, given and written alike.
+fn assert_text(rt: &impl Abort, alloc: Global, fault: RunFault, number: u8, text: &str) {
+    let written = fault.to_string(alloc).expect(rt, "memory");
+    assert_same(rt, fault as u8, number);
+    assert_same(rt, fault.text(), text);
+    assert_same(rt, written.as_str(), text);
 }
 
 #[test]
-fn each_fault_has_its_text_and_number(rt: HostRuntime) -> Result<(), Fail> {
+fn each_fault_has_its_text_and_number(rt: HostRuntime) {
     let table = [
         (RunFault::ReadFault, 1, "b3sum: cannot read the key"),
         (RunFault::WriteFault, 2, "b3sum: cannot write"),
@@ -101,9 +100,6 @@ fn each_fault_has_its_text_and_number(rt: HostRuntime) -> Result<(), Fail> {
         (RunFault::EndlessInput, 5, "b3sum: endless input"),
     ];
     for (fault, number, text) in table {
-        assert_same(&rt, fault as u8, number);
-        assert_same(&rt, fault.text(), text);
-        assert_same(&rt, fault.to_string(rt.alloc())?.as_str(), text);
+        assert_text(&rt, rt.alloc(), fault, number, text);
     }
-    Ok(())
 }

@@ -5,13 +5,13 @@ use super::asserts::{assert_same, assert_same_for, assert_that_for};
 use crate::tests::contents::{line_of, pattern};
 use crate::tests::ended::{Ended, check, check_behind, sum, sum_behind};
 use crate::tests::lettered_files::{Access, LetteredFiles};
+use crate::tests::owned::repeated;
 use crate::tests::rendezvous::{AllAtOnce, Rendezvous};
-use crate::tests::{ONE_BYTE, check_options, options, repeated, tally};
+use crate::tests::{check_options, options, tally};
 use b3_check::{CheckOptions, SumOptions};
 use std::alloc::Global;
 use std::process::Abort;
 use std::sync::Wait;
-use std::test::Fail;
 use std::thread::Threads;
 
 fn sum_by(workers: u32) -> SumOptions {
@@ -34,7 +34,7 @@ fn assert_passed(
     gate: &AllAtOnce,
     workers: u32,
     spans: u64,
-    ended: &Ended,
+    ended: Ended,
     text: &str,
 ) {
     ended.assert(rt, text, Ok(tally(1, 0, 0)), text.as_bytes(), b"");
@@ -52,12 +52,11 @@ fn assert_sum_behind<R: Abort + Threads + Wait + Sync>(
     line: &str,
     workers: u32,
     spans: u64,
-) -> Result<(), Fail> {
+) {
     let mut shelf = LetteredFiles::new(alloc, kept, b"", Access::AtPlaces);
     let gate = AllAtOnce::new(workers);
-    let ended = sum_behind(rt, alloc, &mut shelf, name, &sum_by(workers), &gate)?;
-    assert_passed(rt, &gate, workers, spans, &ended, line);
-    Ok(())
+    let ended = sum_behind(rt, alloc, &mut shelf, name, &sum_by(workers), &gate);
+    assert_passed(rt, &gate, workers, spans, ended, line);
 }
 
 // The same of a check of a list.
@@ -69,12 +68,11 @@ fn assert_check_behind<R: Abort + Threads + Wait + Sync>(
     verdict: &str,
     workers: u32,
     spans: u64,
-) -> Result<(), Fail> {
+) {
     let mut shelf = LetteredFiles::new(alloc, kept, list.as_bytes(), Access::AtPlaces);
     let gate = AllAtOnce::new(workers);
-    let ended = check_behind(rt, alloc, &mut shelf, &check_by(workers), &gate)?;
-    assert_passed(rt, &gate, workers, spans, &ended, verdict);
-    Ok(())
+    let ended = check_behind(rt, alloc, &mut shelf, &check_by(workers), &gate);
+    assert_passed(rt, &gate, workers, spans, ended, verdict);
 }
 
 // By either engine.
@@ -84,13 +82,13 @@ fn assert_behind<R: Abort + Threads + Wait + Sync>(
     name: &str,
     workers: u32,
     spans: u64,
-) -> Result<(), Fail> {
-    let kept = pattern(alloc, 262_144 + 250)?;
-    let line = repeated(alloc, line_of(name), "\n", 1)?;
-    let verdict = repeated(alloc, name, ": OK\n", 1)?;
+) {
+    let kept = pattern(rt, alloc, 262_144 + 250);
+    let line = repeated(rt, alloc, line_of(name), "\n", 1);
+    let verdict = repeated(rt, alloc, name, ": OK\n", 1);
     let (line, verdict) = (line.as_str(), verdict.as_str());
-    assert_sum_behind(rt, alloc, &kept, name, line, workers, spans)?;
-    assert_check_behind(rt, alloc, &kept, line, verdict, workers, spans)
+    assert_sum_behind(rt, alloc, &kept, name, line, workers, spans);
+    assert_check_behind(rt, alloc, &kept, line, verdict, workers, spans);
 }
 
 // A shelf that holds each call of a thread until as many as there are workers have come: these files are asked of it,
@@ -103,14 +101,13 @@ fn assert_sum_asked<R: Abort + Threads + Wait + Sync>(
     names: &[&str],
     lines: &str,
     workers: u32,
-) -> Result<(), Fail> {
+) {
     let mut shelf = LetteredFiles::new(alloc, kept, b"", access);
     shelf.readers = Rendezvous::new(workers);
-    let ended = sum(rt, alloc, &mut shelf, names, &sum_by(workers))?;
+    let ended = sum(rt, alloc, &mut shelf, names, &sum_by(workers));
     let counts = tally(names.len() as u64, 0, 0);
     ended.assert(rt, lines, Ok(counts), lines.as_bytes(), b"");
     assert_that_for(rt, workers, shelf.readers.is_complete());
-    Ok(())
 }
 
 // The same of a check of a list of so many files.
@@ -123,14 +120,18 @@ fn assert_check_asked<R: Abort + Threads + Wait + Sync>(
     files: usize,
     verdicts: &str,
     workers: u32,
-) -> Result<(), Fail> {
+) {
     let mut shelf = LetteredFiles::new(alloc, kept, list.as_bytes(), access);
     shelf.readers = Rendezvous::new(workers);
-    let ended = check(rt, alloc, &mut shelf, &["l"], &check_by(workers))?;
+    let ended = check(rt, alloc, &mut shelf, &["l"], &check_by(workers));
     let counts = tally(files as u64, 0, 0);
     ended.assert(rt, list, Ok(counts), verdicts.as_bytes(), b"");
     assert_that_for(rt, workers, shelf.readers.is_complete());
-    Ok(())
+}
+
+// A name, so often.
+fn names_of<'n>(rt: &impl Abort, alloc: Global, name: &'n str, files: usize) -> Vec<&'n str> {
+    vec![in alloc; name; files].expect(rt, "memory")
 }
 
 // By either engine: so many files of one line.
@@ -142,14 +143,14 @@ fn assert_asked<R: Abort + Threads + Wait + Sync>(
     line: &str,
     files: usize,
     workers: u32,
-) -> Result<(), Fail> {
-    let kept = pattern(alloc, 262_144 + 250)?;
-    let names = vec![in alloc; name; files]?;
-    let lines = repeated(alloc, line, "\n", files)?;
-    let verdicts = repeated(alloc, name, ": OK\n", files)?;
+) {
+    let kept = pattern(rt, alloc, 262_144 + 250);
+    let names = names_of(rt, alloc, name, files);
+    let lines = repeated(rt, alloc, line, "\n", files);
+    let verdicts = repeated(rt, alloc, name, ": OK\n", files);
     let (lines, verdicts) = (lines.as_str(), verdicts.as_str());
-    assert_sum_asked(rt, alloc, access, &kept, &names, lines, workers)?;
-    assert_check_asked(rt, alloc, access, &kept, lines, files, verdicts, workers)
+    assert_sum_asked(rt, alloc, access, &kept, &names, lines, workers);
+    assert_check_asked(rt, alloc, access, &kept, lines, files, verdicts, workers);
 }
 
 // One content, behind both.
@@ -159,21 +160,21 @@ fn assert_at_once<R: Abort + Threads + Wait + Sync>(
     name: &str,
     workers: u32,
     spans: u64,
-) -> Result<(), Fail> {
-    assert_behind(rt, alloc, name, workers, spans)?;
-    assert_asked(rt, alloc, Access::AtPlaces, name, line_of(name), 1, workers)
+) {
+    assert_behind(rt, alloc, name, workers, spans);
+    assert_asked(rt, alloc, Access::AtPlaces, name, line_of(name), 1, workers);
 }
 
 // Two workers over three spans.
 #[test]
-fn two_at_once(rt: HostRuntime) -> Result<(), Fail> {
-    assert_at_once(&rt, rt.alloc(), "g40000", 2, 3)
+fn two_at_once(rt: HostRuntime) {
+    assert_at_once(&rt, rt.alloc(), "g40000", 2, 3);
 }
 
 // Spans have 16 KiB, or 256 KiB where each worker gets four of these. A further worker than two starts for each
 // 256 KiB.
 #[test]
-fn all_workers_at_once(rt: HostRuntime) -> Result<(), Fail> {
+fn all_workers_at_once(rt: HostRuntime) {
     for (name, workers, spans) in [
         ("g524288", 2, 32),
         ("g786432", 3, 48),
@@ -181,18 +182,15 @@ fn all_workers_at_once(rt: HostRuntime) -> Result<(), Fail> {
         ("g6291457", 4, 25),
         ("g16777216", 64, 1_024),
     ] {
-        assert_at_once(&rt, rt.alloc(), name, workers, spans)?;
+        assert_at_once(&rt, rt.alloc(), name, workers, spans);
     }
-    Ok(())
 }
 
 #[test]
-fn all_workers_beside_one_another(rt: HostRuntime) -> Result<(), Fail> {
-    let line = format!(in rt.alloc(); "{ONE_BYTE}  g1")?;
+fn all_workers_beside_one_another(rt: HostRuntime) {
+    let line = line_of("g1");
     for workers in [2, 3, 4, 64u32] {
         let files = workers as usize;
-        let line = line.as_str();
-        assert_asked(&rt, rt.alloc(), Access::Beside, "g1", line, files, workers)?;
+        assert_asked(&rt, rt.alloc(), Access::Beside, "g1", line, files, workers);
     }
-    Ok(())
 }

@@ -4,7 +4,6 @@ use crate::tests::check_options;
 use crate::tests::ended::check;
 use crate::tests::failing::EndlessFile;
 use b3_check::RunFault;
-use std::test::Fail;
 
 // A list of a right line that ends in CR LF, a wrong one, and one that is cut off.
 pub const THREE_LINES: &[u8] =
@@ -19,12 +18,11 @@ pub const THREE_COMPLAINTS: &[u8] =
 
 // It is ended by its reads where it may have more bytes than these give, and else by its bytes.
 #[test]
-fn a_list_that_has_no_end(rt: HostRuntime) -> Result<(), Fail> {
+fn a_list_that_has_no_end(rt: HostRuntime) {
     for largest in [10_000, 100] {
         let mut shelf = EndlessFile::new();
         let asked = check_options(false, largest);
-        let ended = check(&rt, rt.alloc(), &mut shelf, &["l"], &asked)?;
+        let ended = check(&rt, rt.alloc(), &mut shelf, &["l"], &asked);
         ended.assert(&rt, "for ever", Err(RunFault::EndlessInput), b"", b"");
     }
-    Ok(())
 }

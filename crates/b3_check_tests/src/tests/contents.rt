@@ -1,7 +1,8 @@
 // Contents and their check lines.
 
+use crate::tests::owned::append;
 use std::alloc::Global;
-use std::test::Fail;
+use std::process::Abort;
 
 /// The check lines of contents whose bytes are 0 to 250, over and over, as many as the name says. They are those of
 /// other implementations, and `tools/faults` has the program write them too. The lengths lie around none, a chunk, one to three spans of 16 KiB, one and two reads, one to
@@ -66,10 +67,10 @@ pub fn line_of(name: &str) -> &'static str {
 }
 
 /// So many bytes of such a content.
-pub fn pattern(alloc: Global, count: usize) -> Result<Vec<u8>, Fail> {
-    let mut bytes = Vec::with_capacity(alloc, count)?;
+pub fn pattern(rt: &impl Abort, alloc: Global, count: usize) -> Vec<u8> {
+    let mut bytes = Vec::with_capacity(alloc, count).expect(rt, "memory");
     for k in 0..count {
-        bytes.push((k % 251) as u8)?;
+        append(rt, &mut bytes, (k % 251) as u8);
     }
-    Ok(bytes)
+    bytes
 }

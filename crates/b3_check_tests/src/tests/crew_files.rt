@@ -1,13 +1,14 @@
 // Files that take turns to be slow, to fail and to need their turn, and a log of what is said of them.
 
-ghost use Rattle.std.specs.Prelude.{◌≡◌, [], None, false, IfOk};
+ghost use Rattle.std.specs.Prelude.{◌≡◌, [], None, false};
 
 use super::asserts::{assert_same_for, assert_that_for};
+use crate::tests::owned::append;
 use crate::tests::recording::give;
 use crate::tests::rendezvous::Rendezvous;
 use b3_check::{CannotRead, NoContent, Shelf, Sink, SinkFailed};
 use b3_hash::Hasher;
-use std::alloc::{AllocError, Global};
+use std::alloc::Global;
 use std::cell::{Cell, RefCell};
 use std::process::Abort;
 use std::sync::atomic::{AtomicBool, AtomicU64, Ordering};
@@ -159,20 +160,21 @@ pub struct CrewFiles<'a> {
 
 impl<'a> CrewFiles<'a> {
     pub fn new(
+        rt: &impl Abort,
         alloc: Global,
         seen: &'a Seen,
         due: &'a [u64],
         gates: &'a Gates,
-    ) -> Result<CrewFiles<'a>, AllocError>
-        ensures { IfOk result (λ shelf. ⟦<CrewFiles<'a> as Shelf>⟧.failures shelf ≡ 0) }
+    ) -> CrewFiles<'a>
+        ensures { ⟦<CrewFiles<'a> as Shelf>⟧.failures result ≡ 0 }
     {
         let mut looks = Vec::new(alloc);
         let mut begins = Vec::new(alloc);
         for _ in due {
-            looks.push(AtomicU64::new(0))?;
-            begins.push(0)?;
+            append(rt, &mut looks, AtomicU64::new(0));
+            append(rt, &mut begins, 0);
         }
-        Ok(CrewFiles {
+        CrewFiles {
             seen,
             due,
             gates,
@@ -183,7 +185,7 @@ impl<'a> CrewFiles<'a> {
             rest: &[],
             is_begun: false,
             failures: 0,
-        })
+        }
     }
 
     fn due_before(&self, place: usize) -> u64 {
@@ -361,6 +363,10 @@ impl<'a> Log<'a> {
             wanted: 0,
             patience: 100_000,
         }
+    }
+
+    pub fn seen(&self) -> &'a Seen {
+        self.seen
     }
 
     pub fn writes(&self) -> u64 {

@@ -4,6 +4,7 @@
 ghost use Rattle.std.specs.Prelude.{◌≡◌, ◌^◌, ◌<◌, ◌≤◌};
 
 use super::asserts::{assert_same_for, assert_that};
+use crate::tests::owned::{bytes_of, strings};
 use b3_board::{Gate, OpenGate};
 use b3_check::{
     CheckOptions, Form, MemorySink, Operands, RunFault, Shelf, Sink, SumOptions, Tally, run_check,
@@ -12,7 +13,6 @@ use b3_check::{
 use std::alloc::Global;
 use std::process::Abort;
 use std::sync::Wait;
-use std::test::Fail;
 use std::thread::Threads;
 
 /// What a run answered, and what it wrote.
@@ -26,7 +26,7 @@ pub struct Ended {
 impl Ended {
     /// The run of this row answered this, and wrote just these texts.
     pub fn assert(
-        &self,
+        self,
         rt: &impl Abort,
         row: &str,
         answer: Result<Tally, RunFault>,
@@ -40,25 +40,17 @@ impl Ended {
 }
 
 fn ended_of(
+    rt: &impl Abort,
     alloc: Global,
     answer: Result<Tally, RunFault>,
     out: &MemorySink,
     err: &MemorySink,
-) -> Result<Ended, Fail> {
-    Ok(Ended {
+) -> Ended {
+    Ended {
         answer,
-        out: Vec::from_slice(alloc, out.bytes())?,
-        err: Vec::from_slice(alloc, err.bytes())?,
-    })
-}
-
-/// These names.
-pub fn strings(alloc: Global, names: &[&str]) -> Result<Vec<String>, Fail> {
-    let mut strings = Vec::new(alloc);
-    for name in names {
-        strings.push(String::from_str(alloc, name)?)?;
+        out: bytes_of(rt, alloc, out.bytes()),
+        err: bytes_of(rt, alloc, err.bytes()),
     }
-    Ok(strings)
 }
 
 // The bounds that all tests keep to.
@@ -118,6 +110,22 @@ pub fn sum_into<R: Abort + Threads + Wait + Sync, S: Shelf + Send + Sync, O: Sin
     sum_into_behind(rt, alloc, shelf, names, out, err, options, &OpenGate)
 }
 
+/// Sums names of a shelf, which the caller owns.
+pub fn sum_owned<R: Abort + Threads + Wait + Sync, S: Shelf + Send + Sync>(
+    rt: &R,
+    alloc: Global,
+    shelf: &mut S,
+    names: &[String],
+    options: &SumOptions,
+) -> Ended
+    requires { S.failures shelf.old < 2 ^ 63 }
+{
+    let mut out = MemorySink::new(alloc);
+    let mut err = MemorySink::new(alloc);
+    let answer = sum_into(rt, alloc, shelf, names, &mut out, &mut err, options);
+    ended_of(rt, alloc, answer, &out, &err)
+}
+
 /// Sums names of a shelf.
 pub fn sum<R: Abort + Threads + Wait + Sync, S: Shelf + Send + Sync>(
     rt: &R,
@@ -125,14 +133,10 @@ pub fn sum<R: Abort + Threads + Wait + Sync, S: Shelf + Send + Sync>(
     shelf: &mut S,
     names: &[&str],
     options: &SumOptions,
-) -> Result<Ended, Fail>
+) -> Ended
     requires { S.failures shelf.old < 2 ^ 63 }
 {
-    let names = strings(alloc, names)?;
-    let mut out = MemorySink::new(alloc);
-    let mut err = MemorySink::new(alloc);
-    let answer = sum_into(rt, alloc, shelf, &names, &mut out, &mut err, options);
-    ended_of(alloc, answer, &out, &err)
+    sum_owned(rt, alloc, shelf, &strings(rt, alloc, names), options)
 }
 
 /// Sums a name of a shelf behind a gate.
@@ -143,14 +147,14 @@ pub fn sum_behind<R: Abort + Threads + Wait + Sync, S: Shelf + Send + Sync, G: G
     name: &str,
     options: &SumOptions,
     gate: &G,
-) -> Result<Ended, Fail>
+) -> Ended
     requires { S.failures shelf.old < 2 ^ 63 }
 {
-    let names = strings(alloc, &[name])?;
+    let names = strings(rt, alloc, &[name]);
     let mut out = MemorySink::new(alloc);
     let mut err = MemorySink::new(alloc);
     let answer = sum_into_behind(rt, alloc, shelf, &names, &mut out, &mut err, options, gate);
-    ended_of(alloc, answer, &out, &err)
+    ended_of(rt, alloc, answer, &out, &err)
 }
 
 // Checks lists, and writes into these sinks, behind a gate.
@@ -204,14 +208,14 @@ pub fn check<R: Abort + Threads + Wait + Sync, S: Shelf + Send + Sync>(
     shelf: &mut S,
     lists: &[&str],
     options: &CheckOptions,
-) -> Result<Ended, Fail>
+) -> Ended
     requires { S.failures shelf.old < 2 ^ 63 }
 {
-    let lists = strings(alloc, lists)?;
+    let lists = strings(rt, alloc, lists);
     let mut out = MemorySink::new(alloc);
     let mut err = MemorySink::new(alloc);
     let answer = check_into(rt, alloc, shelf, &lists, &mut out, &mut err, options);
-    ended_of(alloc, answer, &out, &err)
+    ended_of(rt, alloc, answer, &out, &err)
 }
 
 /// Checks the list `l` of a shelf behind a gate.
@@ -221,12 +225,12 @@ pub fn check_behind<R: Abort + Threads + Wait + Sync, S: Shelf + Send + Sync, G:
     shelf: &mut S,
     options: &CheckOptions,
     gate: &G,
-) -> Result<Ended, Fail>
+) -> Ended
     requires { S.failures shelf.old < 2 ^ 63 }
 {
-    let lists = strings(alloc, &["l"])?;
+    let lists = strings(rt, alloc, &["l"]);
     let mut out = MemorySink::new(alloc);
     let mut err = MemorySink::new(alloc);
     let answer = check_into_behind(rt, alloc, shelf, &lists, &mut out, &mut err, options, gate);
-    ended_of(alloc, answer, &out, &err)
+    ended_of(rt, alloc, answer, &out, &err)
 }

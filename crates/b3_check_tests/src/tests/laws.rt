@@ -2,16 +2,21 @@
 
 use super::asserts::assert_same;
 use super::{EMPTY, ONE_BYTE};
+use crate::tests::owned::{bytes_of, string_of};
 use b3_laws::{File, SumsAndChecks, sums_check};
-use std::alloc::{AllocError, Global};
+use std::alloc::Global;
 use std::process::Abort;
-use std::test::Fail;
 
-fn file(alloc: Global, name: &str, content: &[u8]) -> Result<File, AllocError> {
-    Ok(File {
-        name: String::from_str(alloc, name)?,
-        content: Vec::from_slice(alloc, content)?,
-    })
+fn file(rt: &impl Abort, alloc: Global, name: &str, content: &[u8]) -> File {
+    File {
+        name: string_of(rt, alloc, name),
+        content: bytes_of(rt, alloc, content),
+    }
+}
+
+// The lines of both files.
+fn lines(rt: &impl Abort, alloc: Global) -> String {
+    format!(in alloc; "{EMPTY}  Z0\n{ONE_BYTE}  Z1\n").expect(rt, "memory")
 }
 
 fn assert_both(rt: &impl Abort, both: &SumsAndChecks, sums: &[u8]) {
@@ -24,11 +29,9 @@ fn assert_both(rt: &impl Abort, both: &SumsAndChecks, sums: &[u8]) {
 }
 
 #[test]
-fn what_was_summed_checks_as_ok(rt: HostRuntime) -> Result<(), Fail> {
+fn what_was_summed_checks_as_ok(rt: HostRuntime) {
     let alloc = rt.alloc();
-    let files = [file(alloc, "Z0", b"")?, file(alloc, "Z1", b"\0")?];
-    let both = sums_check(&rt, alloc, &files, "SUMS", 4)?;
-    let sums = format!(in alloc; "{EMPTY}  Z0\n{ONE_BYTE}  Z1\n")?;
-    assert_both(&rt, &both, sums.as_bytes());
-    Ok(())
+    let files = [file(&rt, alloc, "Z0", b""), file(&rt, alloc, "Z1", b"\0")];
+    let both = sums_check(&rt, alloc, &files, "SUMS", 4).expect(&rt, "both runs");
+    assert_both(&rt, &both, lines(&rt, alloc).as_bytes());
 }
