@@ -1,6 +1,6 @@
 // A board over a small input, drawn by hand, and what boards keep.
 
-ghost use Rattle.std.specs.Prelude.{◌≡◌, IfOk, vec_len};
+ghost use Rattle.std.specs.Prelude.{◌≡◌, ◌+◌, vec_len};
 ghost use Rattle.b3_board.specs.Plans.{IsPlanOf};
 
 mod asserts;
@@ -14,15 +14,14 @@ mod rendezvous;
 mod source;
 mod workers;
 
-use crate::tests::memory::by_grain;
+use crate::tests::memory::plan_by_grain;
 use asserts::{assert_same, assert_same_for, assert_that};
 use b3_board::*;
 use b3_core::{Mode, Node, Span, top};
-use std::alloc::{AllocError, Global};
+use std::alloc::Global;
 use std::marker::Brand;
 use std::process::Abort;
 use std::sync::ledger::{Blank, Ledger};
-use std::test::Fail;
 
 // The digest of no bytes, by the official test vectors.
 const DIGEST_OF_0: [u8; 32] = [
@@ -30,15 +29,22 @@ const DIGEST_OF_0: [u8; 32] = [
     0x9b, 0xcb, 0x25, 0xc9, 0xad, 0xc1, 0x12, 0xb7, 0xcc, 0x9a, 0x93, 0xca, 0xe4, 0x1f, 0x32, 0x62,
 ];
 
-// The bytes of these vectors: `i mod 251`.
-fn pattern(alloc: Global, len: usize) -> Result<Vec<u8>, AllocError>
-    ensures { IfOk result (λ v. vec_len v ≡ len) }
+// Appends an item.
+fn append<T: Drop>(rt: &impl Abort, list: &mut Vec<T>, item: T)
+    ensures { vec_len list.new ≡ vec_len list.old + 1 }
 {
-    let mut bytes = Vec::with_capacity(alloc, len)?;
+    list.push(item).expect(rt, "memory");
+}
+
+// The bytes of these vectors: `i mod 251`.
+fn pattern(rt: &impl Abort, alloc: Global, len: usize) -> Vec<u8>
+    ensures { vec_len result ≡ len }
+{
+    let mut bytes = Vec::with_capacity(alloc, len).expect(rt, "memory");
     for i in 0..len {
-        bytes.push((i % 251) as u8)?;
+        append(rt, &mut bytes, (i % 251) as u8);
     }
-    Ok(bytes)
+    bytes
 }
 
 fn span(first: u64, count: u64) -> Span {
@@ -63,6 +69,21 @@ fn open_board<'a, L: InputLedger>(
     requires own { IsPlanOf L.input L.mode L.first plan.now }
 {
     MemoryBoard::<'a, L>::new(alloc, plan, blank)
+}
+
+// The same, where memory is not refused.
+fn new_board<'a, L: InputLedger>(
+    rt: &impl Abort,
+    alloc: Global,
+    plan: &Plan<'a>,
+    blank: Blank,
+) -> (MemoryBoard<'a, L>, Share<L>)
+    requires name { blank.name ≡ L.name }
+    requires parts { blank.parts ≡ L.parts }
+    requires whole { L.parts ≡ 128 }
+    requires own { IsPlanOf L.input L.mode L.first plan.now }
+{
+    open_board::<L>(alloc, plan, blank).expect(rt, "a board")
 }
 
 // Does the work of span `i`, and deposits it.
@@ -154,25 +175,24 @@ fn steps_on<'a, L: InputLedger>(
     plan: &Plan<'a>,
     blank: Blank,
     steps: &[Step],
-) -> Result<(), Fail>
+)
     requires name { blank.name ≡ L.name }
     requires parts { blank.parts ≡ L.parts }
     requires whole { L.parts ≡ 128 }
     requires own { IsPlanOf L.input L.mode L.first plan.now }
 {
-    let (mut board, mut share) = open_board::<L>(alloc, plan, blank)?;
+    let (mut board, mut share) = new_board::<L>(rt, alloc, plan, blank);
     assert_steps(rt, &mut board, &mut share, plan, steps);
-    Ok(())
 }
 
-fn steps(rt: &impl Abort, alloc: Global, plan: &Plan, steps: &[Step]) -> Result<(), Fail> {
-    steps_on::<Brand>(rt, alloc, plan, Blank::new(128), steps)
+fn steps(rt: &impl Abort, alloc: Global, plan: &Plan, steps: &[Step]) {
+    steps_on::<Brand>(rt, alloc, plan, Blank::new(128), steps);
 }
 
 #[test]
-fn five_chunks(rt: HostRuntime) -> Result<(), Fail> {
-    let input = pattern(rt.alloc(), 5 * 1024)?;
-    let plan = by_grain(rt.alloc(), &input, 1)?;
+fn five_chunks(rt: HostRuntime) {
+    let input = pattern(&rt, rt.alloc(), 5 * 1024);
+    let plan = plan_by_grain(&rt, rt.alloc(), &input, 1);
     let rows: [Step; 5] = [
         (4, &[(4, 1)], 1, 4),
         (2, &[(2, 1), (4, 1)], 2, 3),
@@ -180,7 +200,7 @@ fn five_chunks(rt: HostRuntime) -> Result<(), Fail> {
         (0, &[(0, 1), (2, 2), (4, 1)], 4, 1),
         (1, &[(0, 5)], 5, 0),
     ];
-    steps(&rt, rt.alloc(), &plan, &rows)
+    steps(&rt, rt.alloc(), &plan, &rows);
 }
 
 fn deposit_in<'a, L: InputLedger>(
@@ -203,13 +223,13 @@ fn order_on<'a, L: InputLedger>(
     blank: Blank,
     order: &[usize],
     times: usize,
-) -> Result<(), Fail>
+)
     requires name { blank.name ≡ L.name }
     requires parts { blank.parts ≡ L.parts }
     requires whole { L.parts ≡ 128 }
     requires own { IsPlanOf L.input L.mode L.first plan.now }
 {
-    let (mut board, mut share) = open_board::<L>(alloc, plan, blank)?;
+    let (mut board, mut share) = new_board::<L>(rt, alloc, plan, blank);
     deposit_in(rt, &mut board, &mut share, plan, order);
     assert_same(rt, share.chunks(), board.deposited());
     let want = root_of(rt, plan.input());
@@ -217,23 +237,16 @@ fn order_on<'a, L: InputLedger>(
         assert_same(rt, board.root().expect(rt, "a root").node(), want);
         assert_same(rt, sweep(&mut board, &mut share), 0);
     }
-    Ok(())
 }
 
-fn in_order(
-    rt: &impl Abort,
-    alloc: Global,
-    plan: &Plan,
-    order: &[usize],
-    times: usize,
-) -> Result<(), Fail> {
-    order_on::<Brand>(rt, alloc, plan, Blank::new(128), order, times)
+fn in_order(rt: &impl Abort, alloc: Global, plan: &Plan, order: &[usize], times: usize) {
+    order_on::<Brand>(rt, alloc, plan, Blank::new(128), order, times);
 }
 
 // A body that hashed again would not come to the end.
 #[test]
-fn kept_nodes(rt: HostRuntime) -> Result<(), Fail> {
-    let input = pattern(rt.alloc(), 1 << 24)?;
-    let plan = by_grain(rt.alloc(), &input, 4096)?;
-    in_order(&rt, rt.alloc(), &plan, &[2, 0, 3, 1], 1_000_000)
+fn kept_nodes(rt: HostRuntime) {
+    let input = pattern(&rt, rt.alloc(), 1 << 24);
+    let plan = plan_by_grain(&rt, rt.alloc(), &input, 4096);
+    in_order(&rt, rt.alloc(), &plan, &[2, 0, 3, 1], 1_000_000);
 }

@@ -9,7 +9,6 @@ use arrayvec::ArrayVec;
 use b3_board::{Claims, Seat};
 use std::alloc::{AllocError, Global};
 use std::process::Abort;
-use std::test::Fail;
 use std::thread;
 use std::thread::Threads;
 
@@ -46,8 +45,8 @@ fn assert_seat(rt: &impl Abort, seat: &Seat, parts: u32, claimed: &[u32]) {
 }
 
 #[test]
-fn three_seats_claim_in_turn(rt: HostRuntime) -> Result<(), Fail> {
-    let (claims, mut first) = Claims::new(rt.alloc(), 3)?;
+fn three_seats_claim_in_turn(rt: HostRuntime) {
+    let (claims, mut first) = Claims::new(rt.alloc(), 3).expect(&rt, "claims");
     assert_seat(&rt, &first, 128, &[]);
     let mut second = claims.split(&mut first);
     let mut third = claims.split(&mut first);
@@ -65,7 +64,6 @@ fn three_seats_claim_in_turn(rt: HostRuntime) -> Result<(), Fail> {
     claims.join(&mut first, third);
     assert_seat(&rt, &first, 128, &[1, 2, 0]);
     assert_same(&rt, claims.close(first).as_slice(), [1u32, 2, 0].as_slice());
-    Ok(())
 }
 
 fn claim_all(claims: &Claims, mut seat: Seat, n: usize) -> Seat
@@ -81,10 +79,10 @@ fn claim_all(claims: &Claims, mut seat: Seat, n: usize) -> Seat
 }
 
 // Two threads try each index.
-fn race(rt: &impl Threads, alloc: Global, n: usize) -> Result<ArrayVec<u32, 1024>, AllocError>
+fn race<R: Threads + Abort>(rt: &R, alloc: Global, n: usize) -> ArrayVec<u32, 1024>
     requires { (1 ≤ n) × (n ≤ 1024) }
 {
-    let (claims, mut first) = Claims::new(alloc, n)?;
+    let (claims, mut first) = Claims::new(alloc, n).expect(rt, "claims");
     let second = claims.split(&mut first);
     let (mut one, other) = thread::join(
         rt,
@@ -92,7 +90,7 @@ fn race(rt: &impl Threads, alloc: Global, n: usize) -> Result<ArrayVec<u32, 1024
         || claim_all(&claims, second, n),
     );
     claims.join(&mut one, other);
-    Ok(claims.close(one))
+    claims.close(one)
 }
 
 fn assert_all_once(rt: &impl Abort, mut list: ArrayVec<u32, 1024>, n: usize) {
@@ -104,12 +102,11 @@ fn assert_all_once(rt: &impl Abort, mut list: ArrayVec<u32, 1024>, n: usize) {
 }
 
 #[test]
-fn claims_race(rt: HostRuntime) -> Result<(), Fail> {
-    assert_all_once(&rt, race(&rt, rt.alloc(), 1024)?, 1024);
+fn claims_race(rt: HostRuntime) {
+    assert_all_once(&rt, race(&rt, rt.alloc(), 1024), 1024);
     for _ in 0..1000usize {
-        assert_all_once(&rt, race(&rt, rt.alloc(), 64)?, 64);
+        assert_all_once(&rt, race(&rt, rt.alloc(), 64), 64);
     }
-    Ok(())
 }
 
 // The growth may be refused: what is asserted holds all the same.

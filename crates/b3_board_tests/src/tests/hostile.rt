@@ -5,19 +5,16 @@ ghost use Rattle.b3_board.specs.Plans.{IsPlanOf};
 ghost use Rattle.b3_claims.specs.Seats.{IsSeatOf};
 
 use super::asserts::{assert_same, assert_that};
-use super::memory::by_grain;
+use super::memory::plan_by_grain;
 use super::rendezvous::Yielding;
-use super::{assert_root, counts, open_board, pattern, span, sweep};
-use b3_board::{
-    BoardFault, Claims, Done, Ended, InputLedger, MemoryBoard, Plan, Refused, Share, worker,
-};
+use super::{assert_root, counts, new_board, pattern, span, sweep};
+use b3_board::{Claims, Done, Ended, InputLedger, MemoryBoard, Plan, Refused, Share, worker};
 use b3_core::{Mode, Span};
 use std::alloc::Global;
 use std::marker::{Brand, Send, Sync};
 use std::process::Abort;
 use std::sync::ledger::Blank;
 use std::sync::{Mutex, Wait};
-use std::test::Fail;
 use std::thread;
 use std::thread::Threads;
 
@@ -142,8 +139,8 @@ fn work_beside<'a, L: InputLedger + Send + Sync, R: Threads + Wait + Abort + Syn
     mut theirs: Share<L>,
     plan: &Plan<'a>,
     strangers: &[Plan<'a>],
-) -> Result<(Ended<L>, Share<L>), BoardFault> {
-    let (claims, seat) = Claims::new(alloc, plan.len())?;
+) -> (Ended<L>, Share<L>) {
+    let (claims, seat) = Claims::new(alloc, plan.len()).expect(rt, "claims");
     let (ended, _) = thread::join(
         rt,
         || -> Ended<L>
@@ -151,7 +148,7 @@ fn work_beside<'a, L: InputLedger + Send + Sync, R: Threads + Wait + Abort + Syn
         { worker(rt, plan, board, &claims, seat, share, 0, &Yielding) },
         || deposit_all(rt, board, &mut theirs, plan, strangers),
     );
-    Ok((ended, theirs))
+    (ended, theirs)
 }
 
 // The worker claimed each span, the two deposited all that the board has, and nothing is left to sweep.
@@ -178,19 +175,18 @@ fn beside_on<'a, L: InputLedger + Send + Sync, R: Threads + Wait + Abort + Sync>
     plan: &Plan<'a>,
     strangers: &[Plan<'a>],
     blank: Blank,
-) -> Result<(), Fail>
+)
     requires name { blank.name ≡ L.name }
     requires parts { blank.parts ≡ L.parts }
     requires whole { L.parts ≡ 128 }
     requires own { IsPlanOf L.input L.mode L.first plan.now }
 {
-    let (board, mut share) = open_board::<L>(alloc, plan, blank)?;
+    let (board, mut share) = new_board::<L>(rt, alloc, plan, blank);
     assert_that(rt, share.parts() == 128);
     let theirs = share.split();
     let board = Mutex::new(board);
-    let (ended, theirs) = work_beside(rt, alloc, &board, share, theirs, plan, strangers)?;
+    let (ended, theirs) = work_beside(rt, alloc, &board, share, theirs, plan, strangers);
     assert_all_done(rt, plan, board.into_inner(), &ended, theirs);
-    Ok(())
 }
 
 fn beside<'a, R: Threads + Wait + Abort + Sync>(
@@ -198,8 +194,8 @@ fn beside<'a, R: Threads + Wait + Abort + Sync>(
     alloc: Global,
     plan: &Plan<'a>,
     strangers: &[Plan<'a>],
-) -> Result<(), Fail> {
-    beside_on::<Brand, R>(rt, alloc, plan, strangers, Blank::new(128))
+) {
+    beside_on::<Brand, R>(rt, alloc, plan, strangers, Blank::new(128));
 }
 
 // Plans over other bytes, in another mode, at another first chunk, and by another cutting.
@@ -208,26 +204,25 @@ fn strangers_of<'a>(
     alloc: Global,
     input: &'a [u8],
     zeros: &'a [u8],
-) -> Result<[Plan<'a>; 4], BoardFault> {
+) -> [Plan<'a>; 4] {
     assert_that(rt, input.len() <= 1 << 20);
-    Ok([
-        by_grain(alloc, zeros, 1)?,
-        Plan::new(alloc, input, Mode::keyed(&[7; 32]), 1)?,
-        Plan::at(alloc, input, Mode::hash(), 16, 1)?,
-        by_grain(alloc, input, 2)?,
-    ])
+    [
+        plan_by_grain(rt, alloc, zeros, 1),
+        Plan::new(alloc, input, Mode::keyed(&[7; 32]), 1).expect(rt, "a plan"),
+        Plan::at(alloc, input, Mode::hash(), 16, 1).expect(rt, "a plan"),
+        plan_by_grain(rt, alloc, input, 2),
+    ]
 }
 
 // The two run some times, so that each gets ahead of the other now and then.
 #[test]
-fn an_honest_worker_beside_a_hostile_one(rt: HostRuntime) -> Result<(), Fail> {
+fn an_honest_worker_beside_a_hostile_one(rt: HostRuntime) {
     let alloc = rt.alloc();
-    let input = pattern(alloc, 16 * 1024)?;
-    let zeros = vec![in alloc; 0; 16 * 1024]?;
-    let plan = by_grain(alloc, &input, 1)?;
-    let strangers = strangers_of(&rt, alloc, &input, &zeros)?;
+    let input = pattern(&rt, alloc, 16 * 1024);
+    let zeros = [0; 16 * 1024];
+    let plan = plan_by_grain(&rt, alloc, &input, 1);
+    let strangers = strangers_of(&rt, alloc, &input, &zeros);
     for _ in 0..20usize {
-        beside(&rt, alloc, &plan, &strangers)?;
+        beside(&rt, alloc, &plan, &strangers);
     }
-    Ok(())
 }

@@ -36,6 +36,16 @@ pub(super) fn by_grain<'a>(
     answered!(Plan::new(alloc, input, Mode::hash(), grain))
 }
 
+/// The plan, where memory is not refused.
+pub(super) fn plan_by_grain<'a>(
+    rt: &impl Abort,
+    alloc: Global,
+    input: &'a [u8],
+    grain: u64,
+) -> Plan<'a> {
+    by_grain(alloc, input, grain).expect(rt, "a plan")
+}
+
 fn part_by_grain<'a>(
     alloc: Global,
     input: &'a [u8; 3000],
@@ -50,6 +60,16 @@ pub(super) fn by_cutting<'a>(
     cutting: &[Span],
 ) -> Result<Plan<'a>, BoardFault> {
     answered!(Plan::cut(alloc, input, Mode::hash(), cutting))
+}
+
+/// The plan, where memory is not refused.
+pub(super) fn plan_by_cutting<'a>(
+    rt: &impl Abort,
+    alloc: Global,
+    input: &'a [u8],
+    cutting: &[Span],
+) -> Plan<'a> {
+    by_cutting(alloc, input, cutting).expect(rt, "a plan")
 }
 
 fn part_by_cutting<'a>(

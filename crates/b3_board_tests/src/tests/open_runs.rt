@@ -1,49 +1,59 @@
 // Runs behind gates that wait.
 
 use super::asserts::{assert_same, assert_that, assert_that_for};
-use super::memory::{by_cutting, by_grain};
+use super::memory::{plan_by_cutting, plan_by_grain};
 use super::rendezvous::{AllAtOnce, TURNS};
-use super::workers::{assert_report, run};
+use super::workers::{assert_run, report_of};
 use super::{pattern, span};
-use b3_board::Gate;
+use b3_board::{Gate, Plan};
 use b3_core::{CHUNK_LEN, Mode, top};
+use std::alloc::Global;
+use std::process::Abort;
+use std::sync::Wait;
 use std::sync::atomic::{AtomicBool, Ordering};
-use std::test::Fail;
 use std::thread;
+use std::thread::Threads;
 
 // How many bytes of input each worker of these runs has.
 const WORK_LEN: usize = 128 * CHUNK_LEN;
 
 // As many workers as are asked for are between their claim and the lock at the same time.
+fn assert_all_at_once<R: Threads + Wait + Abort + Sync>(
+    rt: &R,
+    alloc: Global,
+    plan: &Plan,
+    workers: u32,
+) {
+    let gate = AllAtOnce::new(workers);
+    assert_run(rt, alloc, plan, workers, &gate);
+    assert_that_for(rt, workers, gate.workers.is_complete());
+    assert_same(rt, gate.workers.arrived().count_ones(), workers);
+}
+
 #[test]
-fn all_workers_at_once(rt: HostRuntime) -> Result<(), Fail> {
-    let input = pattern(rt.alloc(), 64 * WORK_LEN)?;
+fn all_workers_at_once(rt: HostRuntime) {
+    let input = pattern(&rt, rt.alloc(), 64 * WORK_LEN);
     for workers in [2u32, 3, 4, 64] {
         let part = &input[..workers as usize * WORK_LEN];
-        let plan = by_grain(rt.alloc(), part, 64)?;
-        let gate = AllAtOnce::new(workers);
-        let report = run(&rt, rt.alloc(), &plan, workers, &gate)?;
-        assert_that_for(&rt, workers, gate.workers.is_complete());
-        assert_same(&rt, gate.workers.arrived().count_ones(), workers);
-        assert_report(&rt, &report, part, 0, plan.len(), workers);
+        let plan = plan_by_grain(&rt, rt.alloc(), part, 64);
+        assert_same(&rt, plan.input(), part);
+        assert_all_at_once(&rt, rt.alloc(), &plan, workers);
     }
-    Ok(())
 }
 
 // The gate is told the worker's number and then the span's: two workers over eight spans.
 #[test]
-fn numbers_of_workers_and_of_spans(rt: HostRuntime) -> Result<(), Fail> {
-    let input = pattern(rt.alloc(), 2 * WORK_LEN)?;
-    let plan = by_grain(rt.alloc(), &input, 32)?;
+fn numbers_of_workers_and_of_spans(rt: HostRuntime) {
+    let input = pattern(&rt, rt.alloc(), 2 * WORK_LEN);
+    let plan = plan_by_grain(&rt, rt.alloc(), &input, 32);
     assert_same(&rt, plan.len(), 8);
     let gate = AllAtOnce::new(2);
-    run(&rt, rt.alloc(), &plan, 2, &gate)?;
+    assert_run(&rt, rt.alloc(), &plan, 2, &gate);
     assert_same(
         &rt,
         (gate.workers.arrived(), gate.spans(), gate.calls()),
         (0b11, 0xff, 8),
     );
-    Ok(())
 }
 
 // Over a long span, and two short ones: whether the worker of the second span came before that of the long one, and
@@ -73,7 +83,17 @@ impl Gate for BesideALongSpan<'_> {
     }
 }
 
-impl BesideALongSpan<'_> {
+impl<'a> BesideALongSpan<'a> {
+    fn new(short: &'a [u8]) -> BesideALongSpan<'a> {
+        BesideALongSpan {
+            short,
+            is_long_hashed: AtomicBool::new(false),
+            is_long_deposited: AtomicBool::new(false),
+            is_before: AtomicBool::new(false),
+            is_soon: AtomicBool::new(false),
+        }
+    }
+
     fn wait_beside(&self) {
         self.is_before.store(
             !self.is_long_hashed.load(Ordering::SeqCst),
@@ -95,29 +115,27 @@ impl BesideALongSpan<'_> {
     }
 }
 
+// Whether a short span was hashed beside the long one, which was soon deposited.
+fn is_hashed_beside<R: Threads + Wait + Abort + Sync>(rt: &R, alloc: Global, plan: &Plan) -> bool {
+    let part = [0; 16_384];
+    let gate = BesideALongSpan::new(&part);
+    report_of(rt, alloc, plan, 2, &gate);
+    gate.is_before.load(Ordering::SeqCst) && gate.is_soon.load(Ordering::SeqCst)
+}
+
 // No span is hashed while the board is locked: in some of many runs a short span is hashed beside a long one, and
 // the long one is deposited sooner than a quarter of it is hashed.
 #[test]
-fn no_span_is_hashed_under_the_lock(rt: HostRuntime) -> Result<(), Fail> {
-    let input = pattern(rt.alloc(), (LONG + 2 * SHORT) as usize * CHUNK_LEN)?;
+fn no_span_is_hashed_under_the_lock(rt: HostRuntime) {
+    let input = pattern(&rt, rt.alloc(), (LONG + 2 * SHORT) as usize * CHUNK_LEN);
     let cutting = [span(0, LONG), span(LONG, SHORT), span(LONG + SHORT, SHORT)];
-    let plan = by_cutting(rt.alloc(), &input, &cutting)?;
-    let part = [0; 16_384];
+    let plan = plan_by_cutting(&rt, rt.alloc(), &input, &cutting);
     let mut is_seen = false;
     for _ in 0..100usize {
         if is_seen {
             break;
         }
-        let gate = BesideALongSpan {
-            short: &part,
-            is_long_hashed: AtomicBool::new(false),
-            is_long_deposited: AtomicBool::new(false),
-            is_before: AtomicBool::new(false),
-            is_soon: AtomicBool::new(false),
-        };
-        run(&rt, rt.alloc(), &plan, 2, &gate)?;
-        is_seen = gate.is_before.load(Ordering::SeqCst) && gate.is_soon.load(Ordering::SeqCst);
+        is_seen = is_hashed_beside(&rt, rt.alloc(), &plan);
     }
     assert_that(&rt, is_seen);
-    Ok(())
 }

@@ -1,13 +1,13 @@
 // Which cuttings and grains are taken.
 
 use super::asserts::{assert_same, assert_same_for, assert_that};
-use super::memory::{by_cutting, by_grain};
+use super::memory::{by_cutting, by_grain, plan_by_grain};
 use super::{pattern, span};
 use b3_board::{BoardFault, Plan, default_grain};
 use b3_core::{Mode, Span};
 use std::alloc::Global;
+use std::fmt::Debug;
 use std::process::Abort;
-use std::test::Fail;
 
 // A plan of a part of an input, whose chunks are numbered from 16,384.
 fn cut_later<'a>(
@@ -20,18 +20,28 @@ fn cut_later<'a>(
     Plan::cut_at(alloc, input, Mode::hash(), 16384, cutting)
 }
 
+// The plan was refused for this fault: one of several, which a failure names by its case.
+fn assert_refused<C: Debug + Drop>(
+    rt: &impl Abort,
+    case: C,
+    made: Result<Plan<'_>, BoardFault>,
+    fault: BoardFault,
+) {
+    assert_same_for(rt, case, made.err(), Some(fault));
+}
+
 #[test]
-fn cuttings_that_are_taken_and_refused(rt: HostRuntime) -> Result<(), Fail> {
+fn cuttings_that_are_taken_and_refused(rt: HostRuntime) {
     let alloc = rt.alloc();
-    let input = pattern(alloc, 6 * 1024)?;
-    let taken = cut_later(&rt, alloc, &input, &[span(0, 4), span(4, 2)])?;
+    let input = pattern(&rt, alloc, 6 * 1024);
+    let taken = cut_later(&rt, alloc, &input, &[span(0, 4), span(4, 2)]).expect(&rt, "a plan");
     assert_same(
         &rt,
         (taken.first(), taken.len(), taken.span(2)),
         (16384, 2, None),
     );
     let between = cut_later(&rt, alloc, &input, &[span(0, 2), span(2, 4)]);
-    assert_same(&rt, between.err(), Some(BoardFault::BadCut));
+    assert_refused(&rt, "later", between, BoardFault::BadCut);
     let refused: [&[Span]; 7] = [
         &[span(0, 2), span(2, 4)],
         &[span(0, 4)],
@@ -42,42 +52,35 @@ fn cuttings_that_are_taken_and_refused(rt: HostRuntime) -> Result<(), Fail> {
         &[span(0, 4), span(4, 2), span(6, 1)],
     ];
     for spans in refused {
-        let found = by_cutting(alloc, &input, spans);
-        assert_same(&rt, found.err(), Some(BoardFault::BadCut));
+        let made = by_cutting(alloc, &input, spans);
+        assert_refused(&rt, spans, made, BoardFault::BadCut);
     }
-    Ok(())
 }
 
 #[test]
-fn grains_that_are_taken_and_refused(rt: HostRuntime) -> Result<(), Fail> {
+fn grains_that_are_taken_and_refused(rt: HostRuntime) {
     let alloc = rt.alloc();
-    let input = pattern(alloc, 1024 * 1024 + 1)?;
+    let input = pattern(&rt, alloc, 1024 * 1024 + 1);
     for (grain, fault) in [
         (1u64, BoardFault::TooManySpans),
         (0, BoardFault::BadGrain),
         (3, BoardFault::BadGrain),
         (1 << 21, BoardFault::BadGrain),
     ] {
-        assert_same_for(
-            &rt,
-            grain,
-            by_grain(alloc, &input, grain).err(),
-            Some(fault),
-        );
+        assert_refused(&rt, grain, by_grain(alloc, &input, grain), fault);
     }
-    let plan = by_grain(alloc, &input, 1024)?;
+    let plan = plan_by_grain(&rt, alloc, &input, 1024);
     assert_same(
         &rt,
         (plan.span(0), plan.span(1), plan.span(2)),
         (Some(span(0, 1024)), Some(span(1024, 1)), None),
     );
-    let none = by_grain(alloc, &[], 1)?;
+    let none = plan_by_grain(&rt, alloc, &[], 1);
     assert_same(&rt, (none.len(), none.span(0)), (1, Some(span(0, 1))));
-    Ok(())
 }
 
 #[test]
-fn default_grains(rt: HostRuntime) -> Result<(), Fail> {
+fn default_grains(rt: HostRuntime) {
     for (n, grain, spans) in [
         (1u64, 16u64, 1u64),
         (1 << 14, 16, 1024),
@@ -88,12 +91,11 @@ fn default_grains(rt: HostRuntime) -> Result<(), Fail> {
         let told = default_grain(n);
         assert_same_for(&rt, n, (told, n.div_ceil(grain)), (grain, spans));
     }
-    let input = vec![in rt.alloc(); 0; (1 << 24) + 1]?;
-    let plan = by_grain(rt.alloc(), &input, default_grain((1 << 14) + 1))?;
+    let input = vec![in rt.alloc(); 0; (1 << 24) + 1].expect(&rt, "memory");
+    let plan = plan_by_grain(&rt, rt.alloc(), &input, default_grain((1 << 14) + 1));
     assert_same(
         &rt,
         (plan.len(), plan.span(512)),
         (513, Some(span(1 << 14, 1))),
     );
-    Ok(())
 }

@@ -3,12 +3,11 @@
 ghost use Rattle.std.specs.Prelude.{◌<◌};
 
 use super::asserts::assert_that;
-use super::memory::by_cutting;
-use super::{in_order, pattern, span};
+use super::memory::plan_by_cutting;
+use super::{append, in_order, pattern, span};
 use b3_core::{Span, left};
-use std::alloc::{AllocError, Global};
+use std::alloc::Global;
 use std::process::Abort;
-use std::test::Fail;
 
 // A generator of numbers that look random.
 #[derive(Drop)]
@@ -31,18 +30,12 @@ impl Rng {
 }
 
 // Cuts a subtree into smaller ones, at random: one in `whole` is not cut further.
-pub fn cut_at_random(
-    rt: &impl Abort,
-    alloc: Global,
-    rng: &mut Rng,
-    n: u64,
-    whole: u64,
-) -> Result<Vec<Span>, AllocError>
+pub fn cut_at_random(rt: &impl Abort, alloc: Global, rng: &mut Rng, n: u64, whole: u64) -> Vec<Span>
     requires { 0 < whole }
 {
     let mut cutting = Vec::new(alloc);
     let mut rest = Vec::new(alloc);
-    rest.push(span(0, n))?;
+    append(rt, &mut rest, span(0, n));
     for _ in 0..4096usize {
         let Some(next) = rest.pop() else {
             break;
@@ -53,29 +46,24 @@ pub fn cut_at_random(
                 rt,
                 next.first < 1 << 20 && count < next.count && next.count <= 1 << 20,
             );
-            rest.push(span(next.first + count, next.count - count))?;
-            rest.push(span(next.first, count))?;
+            append(rt, &mut rest, span(next.first + count, next.count - count));
+            append(rt, &mut rest, span(next.first, count));
         } else {
-            cutting.push(next)?;
+            append(rt, &mut cutting, next);
         }
     }
-    Ok(cutting)
+    cutting
 }
 
 // The numbers below `n`, in an order at random.
-fn order_at_random(
-    rt: &impl Abort,
-    alloc: Global,
-    rng: &mut Rng,
-    n: usize,
-) -> Result<Vec<usize>, AllocError> {
-    let mut order = Vec::with_capacity(alloc, n)?;
+fn order_at_random(rt: &impl Abort, alloc: Global, rng: &mut Rng, n: usize) -> Vec<usize> {
+    let mut order = Vec::with_capacity(alloc, n).expect(rt, "memory");
     for i in 0..n {
         let place = rng.below(i as u64 + 1) as usize;
         assert_that(rt, place <= order.len());
-        order.insert(place, i)?;
+        order.insert(place, i).expect(rt, "memory");
     }
-    Ok(order)
+    order
 }
 
 // A length, and one in how many subtrees is not cut further. The first turn has 1,024 spans; of the others most
@@ -93,20 +81,19 @@ fn lengths_at_random(rng: &mut Rng, turn: usize) -> (usize, u64)
 }
 
 #[test]
-fn random_cuttings_and_orders(rt: HostRuntime) -> Result<(), Fail> {
+fn random_cuttings_and_orders(rt: HostRuntime) {
     let alloc = rt.alloc();
-    let input = pattern(alloc, 1024 * 1024)?;
+    let input = pattern(&rt, alloc, 1024 * 1024);
     let mut rng = Rng { state: 1 };
     for turn in 0..1000usize {
         let (len, whole) = lengths_at_random(&mut rng, turn);
         assert_that(&rt, len <= input.len());
         let part = &input[..len];
         let n = b3_core::chunks(len as u64);
-        let cutting = cut_at_random(&rt, alloc, &mut rng, n, whole)?;
-        let plan = by_cutting(alloc, part, &cutting)?;
+        let cutting = cut_at_random(&rt, alloc, &mut rng, n, whole);
+        let plan = plan_by_cutting(&rt, alloc, part, &cutting);
         assert_that(&rt, turn > 0 || plan.len() == 1024);
-        let order = order_at_random(&rt, alloc, &mut rng, plan.len())?;
-        in_order(&rt, alloc, &plan, &order, 1)?;
+        let order = order_at_random(&rt, alloc, &mut rng, plan.len());
+        in_order(&rt, alloc, &plan, &order, 1);
     }
-    Ok(())
 }

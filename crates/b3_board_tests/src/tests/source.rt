@@ -138,12 +138,40 @@ fn read_part<R: Threads + Wait + Sync, G: Gate + Sync>(
     hash_part(rt, alloc, source, place, len, 2, workers, &mut buffer, gate)
 }
 
+// The same, where memory is not refused.
+fn find_part<R: Threads + Wait + Abort + Sync, G: Gate + Sync>(
+    rt: &R,
+    alloc: Global,
+    source: &Silent,
+    place: u64,
+    len: u64,
+    workers: u32,
+    gate: &G,
+) -> Option<Report> {
+    read_part(rt, alloc, source, place, len, workers, gate).expect(rt, "an answer")
+}
+
 // The report of spans of two chunks.
 fn assert_read(rt: &impl Abort, found: Option<Report>, bytes: &[u8], first: u64, workers: u32) {
     assert_that(rt, bytes.len() <= 1 << 30);
     let spans = chunks(bytes.len() as u64).div_ceil(2);
     let report = found.expect(rt, "a root");
     assert_report(rt, &report, bytes, first, spans as usize, workers);
+}
+
+// Reads the bytes that a source has from a place on, and compares the report.
+fn assert_found<R: Threads + Wait + Abort + Sync, G: Gate + Sync>(
+    rt: &R,
+    alloc: Global,
+    source: &Silent,
+    place: u64,
+    part: &[u8],
+    workers: u32,
+    gate: &G,
+) {
+    let len = part.len() as u64;
+    let found = find_part(rt, alloc, source, place, len, workers, gate);
+    assert_read(rt, found, part, place / 1024, workers);
 }
 
 // Reads a part of some bytes by 1, 2, 3, 4 and 64 workers.
@@ -154,16 +182,14 @@ fn assert_part<R: Threads + Wait + Abort + Sync, G: Gate + Sync>(
     place: usize,
     len: usize,
     gate: &G,
-) -> Result<(), Fail> {
+) {
     let part = bytes
         .get(place..place.saturating_add(len))
         .expect(rt, "a part");
     for workers in [1u32, 2, 3, 4, 64] {
         let source = Silent::good(bytes, 0);
-        let found = read_part(rt, alloc, &source, place as u64, len as u64, workers, gate)?;
-        assert_read(rt, found, part, place as u64 / 1024, workers);
+        assert_found(rt, alloc, &source, place as u64, part, workers, gate);
     }
-    Ok(())
 }
 
 // Reads parts from a place on, of each length around spans.
@@ -172,65 +198,77 @@ fn assert_lengths<R: Threads + Wait + Abort + Sync, G: Gate + Sync>(
     alloc: Global,
     place: usize,
     gate: &G,
-) -> Result<(), Fail> {
-    let input = pattern(alloc, 21 * 1024)?;
+) {
+    let input = pattern(rt, alloc, 21 * 1024);
     for len in [
         0usize, 1, 1023, 1024, 1025, 2047, 2048, 2049, 4095, 4096, 4097, 5127, 6143, 6144, 6145,
         8191, 8192, 8193, 10_239, 10_240, 10_241, 12_287, 12_288, 12_289,
     ] {
-        assert_part(rt, alloc, input.as_slice(), place, len, gate)?;
+        assert_part(rt, alloc, input.as_slice(), place, len, gate);
     }
-    Ok(())
 }
 
 // The second of two regions: its chunks are numbered from its own first, and what stands after it is not read.
 #[test]
-fn each_length_of_a_region_after_another(rt: HostRuntime) -> Result<(), Fail> {
-    assert_lengths(&rt, rt.alloc(), 8 * 1024, &Yielding)
+fn each_length_of_a_region_after_another(rt: HostRuntime) {
+    assert_lengths(&rt, rt.alloc(), 8 * 1024, &Yielding);
 }
 
 // Bytes that are not there are not made up.
 #[test]
-fn too_few_bytes(rt: HostRuntime) -> Result<(), Fail> {
-    let input = pattern(rt.alloc(), 9 * 1024)?;
+fn too_few_bytes(rt: HostRuntime) {
+    let input = pattern(&rt, rt.alloc(), 9 * 1024);
     let source = Silent::good(input.as_slice(), 0);
     for len in [9 * 1024 + 1u64, 10 * 1024, 13 * 1024] {
-        let found = read_part(&rt, rt.alloc(), &source, 0, len, 2, &OpenGate)?;
+        let found = find_part(&rt, rt.alloc(), &source, 0, len, 2, &OpenGate);
         assert_that_for(&rt, len, found.is_none());
     }
-    Ok(())
+}
+
+// Reads so many bytes in spans of `grain` chunks, by a buffer with this room.
+fn read_with_room<R: Threads + Wait + Abort + Sync>(
+    rt: &R,
+    alloc: Global,
+    source: &Silent,
+    len: usize,
+    grain: u64,
+    workers: u32,
+    room: usize,
+) -> Option<Report> {
+    let mut buffer = vec![in alloc; 0u8; room].expect(rt, "memory");
+    let len = len as u64;
+    hash_part(
+        rt,
+        alloc,
+        source,
+        0,
+        len,
+        grain,
+        workers,
+        &mut buffer,
+        &OpenGate,
+    )
+    .expect(rt, "an answer")
 }
 
 // A buffer that is shorter than a span and than a piece takes none.
 #[test]
-fn too_short_a_buffer(rt: HostRuntime) -> Result<(), Fail> {
-    let input = pattern(rt.alloc(), MEBIBYTE)?;
+fn too_short_a_buffer(rt: HostRuntime) {
+    let input = pattern(&rt, rt.alloc(), MEBIBYTE);
     let source = Silent::good(input.as_slice(), 0);
     for (room, len, grain, is_taken) in [
         (2047, 9 * 1024, 2, false),
         (PIECE_LEN - 1, MEBIBYTE, 1024, false),
         (PIECE_LEN, MEBIBYTE, 1024, true),
     ] {
-        let mut buffer = vec![in rt.alloc(); 0u8; room]?;
-        let found = hash_part(
-            &rt,
-            rt.alloc(),
-            &source,
-            0,
-            len as u64,
-            grain,
-            1,
-            &mut buffer,
-            &OpenGate,
-        )?;
+        let found = read_with_room(&rt, rt.alloc(), &source, len, grain, 1, room);
         assert_same_for(&rt, room, found.is_some(), is_taken);
     }
-    Ok(())
 }
 
 // No more workers run than the buffer has spans for: one here, of four.
 #[test]
-fn a_room_for_one_span(rt: HostRuntime) -> Result<(), Fail> {
+fn a_room_for_one_span(rt: HostRuntime) {
     let bytes = [7; 9000];
     let told = Told { bytes: &bytes };
     let mut buffer = [0; 4095];
@@ -244,30 +282,28 @@ fn a_room_for_one_span(rt: HostRuntime) -> Result<(), Fail> {
         4,
         &mut buffer,
         &Yielding,
-    )?;
+    )
+    .expect(&rt, "an answer");
     let report = found.expect(&rt, "a root");
     assert_same(&rt, report.shares.as_slice(), [9u64, 0, 0, 0].as_slice());
     assert_read(&rt, Some(report), &bytes, 0, 4);
-    Ok(())
 }
 
 // Each span is read once, by a worker that then passes the gate: none is left to the call that started the workers.
 #[test]
-fn two_readers_a_thousand_times(rt: HostRuntime) -> Result<(), Fail> {
-    let input = pattern(rt.alloc(), 64 * 1024)?;
+fn two_readers_a_thousand_times(rt: HostRuntime) {
+    let input = pattern(&rt, rt.alloc(), 64 * 1024);
     let all = input.as_slice();
     for _ in 0..1000usize {
         let source = Silent::good(all, 0);
         let gate = AllAtOnce::new(2);
-        let found = read_part(&rt, rt.alloc(), &source, 0, 64 * 1024, 2, &gate)?;
-        assert_read(&rt, found, all, 0, 2);
+        assert_found(&rt, rt.alloc(), &source, 0, all, 2, &gate);
         assert_same(
             &rt,
             (source.reads.load(Ordering::SeqCst), gate.calls()),
             (32, 32),
         );
     }
-    Ok(())
 }
 
 // Reads five spans, the last of which has seven bytes of its second chunk.
@@ -278,55 +314,70 @@ fn read_five<R: Threads + Wait + Abort + Sync>(
     bad: u64,
     how: Bad,
     workers: u32,
-) -> Result<Option<Report>, BoardFault> {
+) -> Option<Report> {
     let source = Silent::new(bytes, bad, how);
-    read_part(rt, alloc, &source, 0, 9 * 1024 + 7, workers, &Yielding)
+    find_part(rt, alloc, &source, 0, 9 * 1024 + 7, workers, &Yielding)
 }
 
 #[test]
-fn each_read_fails(rt: HostRuntime) -> Result<(), Fail> {
-    let input = pattern(rt.alloc(), 9 * 1024 + 7)?;
+fn each_read_fails(rt: HostRuntime) {
+    let input = pattern(&rt, rt.alloc(), 9 * 1024 + 7);
     let all = input.as_slice();
     for how in [Bad::Refused, Bad::Short] {
         for bad in 0..5u64 {
             for workers in [1u32, 3] {
-                let found = read_five(&rt, rt.alloc(), all, bad, how, workers)?;
+                let found = read_five(&rt, rt.alloc(), all, bad, how, workers);
                 assert_that_for(&rt, bad, found.is_none());
             }
         }
-        let found = read_five(&rt, rt.alloc(), all, 5, how, 3)?;
+        let found = read_five(&rt, rt.alloc(), all, 5, how, 3);
         assert_read(&rt, found, all, 0, 3);
     }
-    Ok(())
 }
 
-// As many workers read at once as were asked for, and as many are behind the gate.
+// As many workers read at once as were asked for.
+fn assert_reads_at_once<R: Threads + Wait + Abort + Sync>(
+    rt: &R,
+    alloc: Global,
+    part: &[u8],
+    workers: u32,
+) {
+    let source = Silent::good(part, workers);
+    assert_found(rt, alloc, &source, 0, part, workers, &OpenGate);
+    assert_that_for(rt, workers, source.readers.is_complete());
+}
+
+// As many workers are behind the gate at once as were asked for, each with two chunks.
+fn assert_gate_at_once<R: Threads + Wait + Abort + Sync>(
+    rt: &R,
+    alloc: Global,
+    part: &[u8],
+    workers: u32,
+) {
+    let source = Silent::good(part, 0);
+    let gate = AllAtOnce::new(workers);
+    let len = part.len() as u64;
+    let found = find_part(rt, alloc, &source, 0, len, workers, &gate);
+    assert_that_for(rt, workers, gate.workers.is_complete());
+    let report = found.expect(rt, "a root");
+    for share in report.shares.iter() {
+        assert_same_for(rt, workers, *share, 2);
+    }
+    assert_read(rt, Some(report), part, 0, workers);
+}
+
 #[test]
-fn workers_at_once_over_a_source(rt: HostRuntime) -> Result<(), Fail> {
-    let input = pattern(rt.alloc(), 64 * 2048)?;
+fn workers_at_once_over_a_source(rt: HostRuntime) {
+    let input = pattern(&rt, rt.alloc(), 64 * 2048);
     for workers in [2, 3, 4, 64u32] {
         let part = &input[..workers as usize * 2048];
-        let len = part.len() as u64;
-        let source = Silent::good(part, workers);
-        let found = read_part(&rt, rt.alloc(), &source, 0, len, workers, &OpenGate)?;
-        assert_that_for(&rt, workers, source.readers.is_complete());
-        assert_read(&rt, found, part, 0, workers);
-
-        let source = Silent::good(part, 0);
-        let gate = AllAtOnce::new(workers);
-        let found = read_part(&rt, rt.alloc(), &source, 0, len, workers, &gate)?;
-        assert_that_for(&rt, workers, gate.workers.is_complete());
-        let report = found.expect(&rt, "a root");
-        for share in report.shares.iter() {
-            assert_same_for(&rt, workers, *share, 2);
-        }
-        assert_read(&rt, Some(report), part, 0, workers);
+        assert_reads_at_once(&rt, rt.alloc(), part, workers);
+        assert_gate_at_once(&rt, rt.alloc(), part, workers);
     }
-    Ok(())
 }
 
 #[test]
-fn refused_runs_over_a_source(rt: HostRuntime) -> Result<(), Fail> {
+fn refused_runs_over_a_source(rt: HostRuntime) {
     let bytes = [7; 4096];
     let source = Silent::good(&bytes, 0);
     for (len, grain, workers, fault) in [
@@ -349,7 +400,6 @@ fn refused_runs_over_a_source(rt: HostRuntime) -> Result<(), Fail> {
         );
         assert_same(&rt, found.err(), Some(fault));
     }
-    Ok(())
 }
 
 // How many of two runs of four workers ended with an answer: one that meets want of memory is made again.
@@ -390,28 +440,32 @@ fn read_in_pieces<R: Threads + Wait + Abort + Sync>(
     source: &Silent,
     len: usize,
     workers: u32,
-) -> Result<Option<Report>, Fail> {
+) -> Option<Report> {
     let parts = len.div_ceil(MEBIBYTE).min(workers as usize);
-    let mut buffer = vec![in alloc; 0u8; PIECE_LEN.saturating_mul(parts)]?;
-    let len = len as u64;
-    let found = hash_part(
-        rt,
-        alloc,
-        source,
-        0,
-        len,
-        1024,
-        workers,
-        &mut buffer,
-        &OpenGate,
-    )?;
-    Ok(found)
+    let room = PIECE_LEN.saturating_mul(parts);
+    read_with_room(rt, alloc, source, len, 1024, workers, room)
+}
+
+// Reads all of a part in so many spans and reads.
+fn assert_reads<R: Threads + Wait + Abort + Sync>(
+    rt: &R,
+    alloc: Global,
+    part: &[u8],
+    workers: u32,
+    spans: usize,
+    reads: u64,
+) {
+    let source = Silent::good(part, 0);
+    let found = read_in_pieces(rt, alloc, &source, part.len(), workers);
+    let report = found.expect(rt, "a root");
+    assert_report(rt, &report, part, 0, spans, workers);
+    assert_same_for(rt, part.len(), source.reads.load(Ordering::SeqCst), reads);
 }
 
 // The last span has a chunk, a piece, a piece and a byte, or a piece and two chunks.
 #[test]
-fn spans_of_several_pieces(rt: HostRuntime) -> Result<(), Fail> {
-    let input = pattern(rt.alloc(), 2 * MEBIBYTE + PIECE_LEN + 1025)?;
+fn spans_of_several_pieces(rt: HostRuntime) {
+    let input = pattern(&rt, rt.alloc(), 2 * MEBIBYTE + PIECE_LEN + 1025);
     for (len, spans, reads) in [
         (MEBIBYTE - 1, 1, 4),
         (MEBIBYTE, 1, 4),
@@ -422,29 +476,23 @@ fn spans_of_several_pieces(rt: HostRuntime) -> Result<(), Fail> {
     ] {
         for workers in [1u32, 2, 4] {
             let part = input.get(..len).expect(&rt, "a part");
-            let source = Silent::good(part, 0);
-            let found = read_in_pieces(&rt, rt.alloc(), &source, len, workers)?;
-            let report = found.expect(&rt, "a root");
-            assert_report(&rt, &report, part, 0, spans, workers);
-            assert_same_for(&rt, len, source.reads.load(Ordering::SeqCst), reads);
+            assert_reads(&rt, rt.alloc(), part, workers, spans, reads);
         }
     }
-    Ok(())
 }
 
 // One of six pieces is refused or short, whichever of its span it is.
 #[test]
-fn each_piece_fails(rt: HostRuntime) -> Result<(), Fail> {
+fn each_piece_fails(rt: HostRuntime) {
     let len = MEBIBYTE + PIECE_LEN + 1;
-    let input = pattern(rt.alloc(), len)?;
+    let input = pattern(&rt, rt.alloc(), len);
     for how in [Bad::Refused, Bad::Short] {
         for bad in 0..7u64 {
             for workers in [1u32, 3] {
                 let source = Silent::new(input.as_slice(), bad, how);
-                let found = read_in_pieces(&rt, rt.alloc(), &source, len, workers)?;
+                let found = read_in_pieces(&rt, rt.alloc(), &source, len, workers);
                 assert_same_for(&rt, bad, found.is_some(), bad == 6);
             }
         }
     }
-    Ok(())
 }

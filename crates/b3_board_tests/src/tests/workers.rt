@@ -1,7 +1,7 @@
 // Runs of many workers.
 
 use super::asserts::{assert_same, assert_that, assert_that_for};
-use super::memory::{by_cutting, by_grain, last_growth};
+use super::memory::{last_growth, plan_by_cutting, plan_by_grain};
 use super::random::{Rng, cut_at_random};
 use super::rendezvous::Yielding;
 use super::{DIGEST_OF_0, assert_digest, pattern};
@@ -33,6 +33,17 @@ pub(super) fn run<R: Threads + Wait + Sync, G: Gate + Sync>(
     hash_parallel(rt, alloc, plan, workers, gate)
 }
 
+// The report of a run, where memory is not refused.
+pub(super) fn report_of<R: Threads + Wait + Abort + Sync, G: Gate + Sync>(
+    rt: &R,
+    alloc: Global,
+    plan: &Plan,
+    workers: u32,
+    gate: &G,
+) -> Report {
+    run(rt, alloc, plan, workers, gate).expect(rt, "a report")
+}
+
 // The root is `top` of the bytes from a first chunk on, kept by a board. Each of the spans was claimed once, each
 // worker has a number, and all chunks were deposited: none was left to the sweep.
 pub(super) fn assert_report(
@@ -58,10 +69,22 @@ pub(super) fn assert_report(
     );
 }
 
+// A run over a plan from the first chunk on gives such a report.
+pub(super) fn assert_run<R: Threads + Wait + Abort + Sync, G: Gate + Sync>(
+    rt: &R,
+    alloc: Global,
+    plan: &Plan,
+    workers: u32,
+    gate: &G,
+) {
+    let report = report_of(rt, alloc, plan, workers, gate);
+    assert_report(rt, &report, plan.input(), 0, plan.len(), workers);
+}
+
 #[test]
-fn nothing_and_64_workers(rt: HostRuntime) -> Result<(), Fail> {
-    let plan = by_grain(rt.alloc(), &[], 1)?;
-    let report = run(&rt, rt.alloc(), &plan, 64, &OpenGate)?;
+fn nothing_and_64_workers(rt: HostRuntime) {
+    let plan = plan_by_grain(&rt, rt.alloc(), &[], 1);
+    let report = report_of(&rt, rt.alloc(), &plan, 64, &OpenGate);
     assert_report(&rt, &report, plan.input(), 0, 1, 64);
     assert_same(&rt, report.claimed.as_slice(), [0u32].as_slice());
     assert_digest(&rt, &report.root, &DIGEST_OF_0);
@@ -72,40 +95,35 @@ fn nothing_and_64_workers(rt: HostRuntime) -> Result<(), Fail> {
             Some(BoardFault::BadWorkers),
         );
     }
-    Ok(())
 }
 
 #[test]
-fn random_cuttings_and_workers(rt: HostRuntime) -> Result<(), Fail> {
+fn random_cuttings_and_workers(rt: HostRuntime) {
     let alloc = rt.alloc();
-    let input = pattern(alloc, 100 * 1024)?;
+    let input = pattern(&rt, alloc, 100 * 1024);
     let mut rng = Rng { state: 12 };
     for _ in 0..100usize {
         let greatest = 1 + rng.below(100 * 1024);
         let len = rng.below(greatest) as usize;
         assert_that(&rt, len <= input.len());
         let part = &input[..len];
-        let cutting = cut_at_random(&rt, alloc, &mut rng, chunks(len as u64), 8)?;
-        let plan = by_cutting(alloc, part, &cutting)?;
+        let cutting = cut_at_random(&rt, alloc, &mut rng, chunks(len as u64), 8);
+        let plan = plan_by_cutting(&rt, alloc, part, &cutting);
         for workers in [1u32, 2, 4, 64] {
-            let report = run(&rt, alloc, &plan, workers, &OpenGate)?;
-            assert_report(&rt, &report, plan.input(), 0, plan.len(), workers);
-            let report = run(&rt, alloc, &plan, workers, &Yielding)?;
-            assert_report(&rt, &report, plan.input(), 0, plan.len(), workers);
+            assert_run(&rt, alloc, &plan, workers, &OpenGate);
+            assert_run(&rt, alloc, &plan, workers, &Yielding);
         }
     }
-    Ok(())
 }
 
 #[test]
-fn two_workers_a_thousand_times(rt: HostRuntime) -> Result<(), Fail> {
-    let input = pattern(rt.alloc(), 64 * 1024)?;
-    let plan = by_grain(rt.alloc(), &input, 1)?;
+fn two_workers_a_thousand_times(rt: HostRuntime) {
+    let input = pattern(&rt, rt.alloc(), 64 * 1024);
+    let plan = plan_by_grain(&rt, rt.alloc(), &input, 1);
+    assert_same(&rt, (plan.input(), plan.len()), (input.as_slice(), 64));
     for _ in 0..1000usize {
-        let report = run(&rt, rt.alloc(), &plan, 2, &Yielding)?;
-        assert_report(&rt, &report, &input, 0, 64, 2);
+        assert_run(&rt, rt.alloc(), &plan, 2, &Yielding);
     }
-    Ok(())
 }
 
 // How many of two runs of four workers ended with an answer: one that meets want of memory is made again.
