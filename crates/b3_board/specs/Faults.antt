@@ -4,8 +4,8 @@ use Rattle.std.specs.Int.{div_ceil}
 use Rattle.b3_core.specs.Tree.{chunks}
 use Rattle.b3_core.specs.declared.spans.Span.{Span}
 use Rattle.b3_board.specs.Plans.{IsCutting, IsGrain}
-use Rattle.b3_board.specs.declared.fault.BoardFault.{BoardFault}
-use Rattle.b3_board.specs.declared.fault.BoardFault.TheVariants.{BadGrain, BadCut, TooLarge, TooManySpans, Memory, BadWorkers}
+use Rattle.b3_claims.specs.declared.fault.BoardFault.{BoardFault}
+use Rattle.b3_claims.specs.declared.fault.BoardFault.TheVariants.{BadGrain, BadCut, TooLarge, TooManySpans, Memory, BadWorkers}
 
 -- the refusal of an input of `len` bytes that is to be cut by a grain
 abbrev pub IsGrainFault : ℕ → ℕ → BoardFault → Type 0

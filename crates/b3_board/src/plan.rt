@@ -6,15 +6,15 @@ ghost use Rattle.b3_core.specs.Tree.{chunks, top};
 ghost use Rattle.b3_board.specs.Faults.{IsCutFault, IsGrainFault};
 ghost use Rattle.b3_board.specs.Plans.{IsCutting, IsPlanOf, by_grain, job_of};
 ghost use Rattle.b3_board.specs.Spans.{chunks_in};
-ghost use Rattle.b3_board.specs.declared.fault.BoardFault.{BoardFault};
-ghost use Rattle.b3_board.specs.declared.fault.BoardFault.TheVariants.{Memory};
+ghost use Rattle.b3_claims.specs.declared.fault.BoardFault.{BoardFault};
+ghost use Rattle.b3_claims.specs.declared.fault.BoardFault.TheVariants.{Memory};
 
 use crate::cutting::{MAX_INPUT, MAX_SPANS, grain_spans, is_cutting, is_grain};
-use crate::fault::BoardFault;
 use crate::input_ledger::{InputLedger, OwnDone};
 use crate::jobs::Job;
 use crate::root::Root;
 use crate::tree::Tree;
+use b3_claims::BoardFault;
 use b3_core::{Mode, Span, chunks};
 use std::alloc::Global;
 use std::marker::Model;

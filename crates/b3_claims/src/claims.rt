@@ -1,11 +1,13 @@
 // Claims on indexes, each by one swap of a shared word, and the seats that claim.
 
-ghost use Rattle.std.specs.Prelude.{◌≡◌, ℕ, ◌+◌, ◌<◌, ◌≤◌, [], length, IfOk};
+ghost use Rattle.std.specs.Prelude.{◌≡◌, ℕ, ◌+◌, ◌<◌, ◌≤◌, [], length, IfOk, IsOkUnless};
+ghost use Rattle.b3_claims.specs.declared.fault.BoardFault.TheVariants.{Memory};
 
 use crate::claim_rule::{ClaimRule, Look, OnePart, Try, View};
+use crate::fault::BoardFault;
 use arrayvec::ArrayVec;
 use atomic_table::Table;
-use std::alloc::{AllocError, Global};
+use std::alloc::Global;
 use std::marker::Model;
 
 const PARTS: u32 = 128;
@@ -72,11 +74,12 @@ impl Claims {
     /// Claims on the indexes below n, none of them taken, and the first seat, which has all 128 parts.
     ///
     /// It takes all its memory here.
-    pub fn new(alloc: Global, n: usize) -> Result<(Claims, Seat), AllocError>
+    pub fn new(alloc: Global, n: usize) -> Result<(Claims, Seat), BoardFault>
         requires { (1 ≤ n) × (n ≤ 1024) }
         ensures count { IfOk result (λ made. made.0.count ≡ n) }
         ensures own { IfOk result (λ made. IsSeatOf made.0 made.1) }
         ensures seat { IfOk result (λ made. made.1.view ≡ newcomer n) }
+        ensures only { IsOkUnless result Memory }
     {
         let words = vec![in alloc; 0u64; n + 1]?;
         let (table, token) = Table::of_words(alloc, words.as_slice(), &n)?;

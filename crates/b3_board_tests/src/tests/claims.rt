@@ -6,8 +6,8 @@ ghost use Rattle.b3_claims.specs.Seats.{HasSeenAll, IsSeatOf};
 use super::asserts::{assert_same, assert_that_for};
 use super::memory::last_growth;
 use arrayvec::ArrayVec;
-use b3_board::{Claims, Seat};
-use std::alloc::{AllocError, Global};
+use b3_board::{BoardFault, Claims, Seat};
+use std::alloc::Global;
 use std::process::Abort;
 use std::thread;
 use std::thread::Threads;
@@ -114,7 +114,7 @@ fn claims_race(rt: HostRuntime) {
 fn a_refused_growth_makes_no_claims(rt: HostRuntime) {
     match Claims::new(rt.alloc(), 1024) {
         Ok((_claims, first)) => assert_same(&rt, first.parts(), 128),
-        Err(fault) => assert_same(&rt, fault, AllocError),
+        Err(fault) => assert_same(&rt, fault, BoardFault::Memory),
     }
     assert_that_for(
         &rt,

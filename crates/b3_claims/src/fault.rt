@@ -1,12 +1,12 @@
-//! Why a plan, a board or a run of workers is refused.
+//! Why claims, a plan, a board or a run of workers are refused.
 
 ghost use Rattle.std.specs.Prelude.{◌≡◌};
-ghost use Rattle.b3_board.specs.declared.fault.BoardFault.TheVariants.{Memory};
+ghost use Rattle.b3_claims.specs.declared.fault.BoardFault.TheVariants.{Memory};
 
 use std::alloc::{AllocError, AllocFailed};
 use thiserror::Error;
 
-/// Why a plan, a board or a run of workers is refused, with the number of the fault. Of several that hold, each call
+/// Why claims, a plan, a board or a run of workers are refused, with the number of the fault. Of several that hold, each call
 /// says which comes; the numbers do not.
 #[derive(Clone, Copy, Debug, PartialEq, Eq, Error)]
 pub enum BoardFault {
