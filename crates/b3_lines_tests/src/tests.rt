@@ -1,5 +1,5 @@
-// Check lines by examples. A function of these tests holds few values that own memory where it may return: each return
-// lets them all go, and each of these steps is proved.
+// Check lines by examples. Helpers end the process where memory or a call fails, so that a test has one way on: at each
+// other one all that is alive would be let go of, and each of these steps is proved.
 
 mod asserts;
 mod digits;
@@ -9,9 +9,8 @@ mod written;
 use asserts::{assert_same, assert_same_for, assert_that};
 use b3_lines::{Line, LineFault, Lines, first_piece, lines, read_line};
 use hex::FromHex;
-use std::alloc::{AllocError, Global};
+use std::alloc::{AllocGlobal, Global};
 use std::process::Abort;
-use std::test::Fail;
 
 /// The digits of the BLAKE3 digest of no bytes.
 const DIGITS: &str = "af1349b9f5f9a1a6a0404dea36dcc9499bcb25c9adc112b7cc9a93cae41f3262";
@@ -20,12 +19,14 @@ fn digest(rt: &impl Abort) -> [u8; 32] {
     <[u8; 32]>::from_hex(DIGITS).expect(rt, "64 digits")
 }
 
+/// The bytes of these parts, one after the other.
+fn joined<R: AllocGlobal + Abort>(rt: &R, parts: &[&[u8]]) -> Vec<u8> {
+    parts.concat(rt.alloc()).expect(rt, "memory")
+}
+
 /// The bytes of `before`, the digits and `after`, as a line.
-fn line_of(alloc: Global, before: &[u8], after: &[u8]) -> Result<Vec<u8>, AllocError> {
-    let mut line = Vec::from_slice(alloc, before)?;
-    line.extend_from_slice(DIGITS.as_bytes())?;
-    line.extend_from_slice(after)?;
-    Ok(line)
+fn line_of<R: AllocGlobal + Abort>(rt: &R, before: &[u8], after: &[u8]) -> Vec<u8> {
+    joined(rt, &[before, DIGITS.as_bytes(), after])
 }
 
 /// Asserts that a line says the digest of no bytes and this name, shown so.
@@ -80,8 +81,15 @@ fn places_of_lines(rt: HostRuntime) {
     assert_places(&rt, b"\n\n\r", &[(0, 0), (1, 1), (2, 3)]);
 }
 
+/// Asserts that a refusal has this number, and says this text in both ways.
+fn assert_refusal<R: AllocGlobal + Abort>(rt: &R, fault: LineFault, number: u8, text: &str) {
+    assert_same(rt, (fault as u8, fault.reason()), (number, text));
+    let shown = fault.to_string(rt.alloc()).expect(rt, "memory");
+    assert_same(rt, shown.as_str(), text);
+}
+
 #[test]
-fn refusals_have_their_numbers_and_texts(rt: HostRuntime) -> Result<(), Fail> {
+fn refusals_have_their_numbers_and_texts(rt: HostRuntime) {
     let rows = [
         (1, LineFault::Empty, "empty line"),
         (2, LineFault::NotText, "not text"),
@@ -94,9 +102,6 @@ fn refusals_have_their_numbers_and_texts(rt: HostRuntime) -> Result<(), Fail> {
         (9, LineFault::Memory, "out of memory"),
     ];
     for (number, fault, text) in rows {
-        assert_same(&rt, fault as u8, number);
-        assert_same(&rt, fault.reason(), text);
-        assert_same(&rt, fault.to_string(rt.alloc())?.as_str(), text);
+        assert_refusal(&rt, fault, number, text);
     }
-    Ok(())
 }

@@ -9,7 +9,7 @@ use std::process::Abort;
 pub fn assert_same<T: PartialEq + Debug + Drop>(rt: &impl Abort, found: T, wanted: T)
     ensures { T.eq found wanted ≡ true }
 {
-    assert_eq!(rt; found, wanted);
+    assert!(rt; found == wanted, "{found:?} is not {wanted:?}");
 }
 
 /// Ends the process, unless the two are equal: for one of several cases, which a failure names.
@@ -21,7 +21,7 @@ pub fn assert_same_for<C: Debug + Drop, T: PartialEq + Debug + Drop>(
 )
     ensures { T.eq found wanted ≡ true }
 {
-    assert_eq!(rt; found, wanted, "{case:?}");
+    assert!(rt; found == wanted, "{case:?}: {found:?} is not {wanted:?}");
 }
 
 /// Ends the process, unless this holds.
