@@ -1,18 +1,18 @@
 //! What ends a run.
 
-ghost use Rattle.std.specs.Prelude.{◌≡◌, Some};
+ghost use Rattle.std.specs.Prelude.{◌≡◌};
 ghost use Rattle.b3_io.specs.Faults.{fault_text};
 ghost use Rattle.b3_io.specs.declared.fault.RunFault.TheVariants.{Memory, WriteFault};
 
 use crate::prefixed;
 use crate::sink::SinkFailed;
 use std::alloc::AllocError;
-use std::fmt;
 use thiserror::Error;
 
 /// What ends a run, with the number of the fault, which is no status: a program that meets any of them
 /// ends with 1.
 #[derive(Clone, Copy, Debug, PartialEq, Eq, Error)]
+#[error("{}", self.text())]
 pub enum RunFault {
     /// The key cannot be read.
     ReadFault = 1,
@@ -39,14 +39,6 @@ impl RunFault {
             RunFault::BadKey => prefixed!("the key is not 32 bytes"),
             RunFault::EndlessInput => prefixed!("endless input"),
         }
-    }
-}
-
-impl fmt::Display for RunFault {
-    ghost output = { λ fault. Some (fault_text fault) };
-
-    fn fmt<W: fmt::Write>(&self, f: &mut fmt::Formatter<W>) -> fmt::Result {
-        f.write_str(self.text())
     }
 }
 

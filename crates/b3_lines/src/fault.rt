@@ -1,15 +1,15 @@
 //! Why a line is refused.
 
-ghost use Rattle.std.specs.Prelude.{◌≡◌, Some};
+ghost use Rattle.std.specs.Prelude.{◌≡◌};
 ghost use Rattle.b3_lines.specs.declared.fault.LineFault.TheVariants.{Memory};
 
 use std::alloc::{AllocError, AllocFailed};
-use std::fmt;
 use thiserror::Error;
 
 /// Why a line is refused, or a name to be written, with the number of the refusal. Of several
 /// that hold, the one with the lowest number is answered.
 #[derive(Clone, Copy, Debug, PartialEq, Eq, Error)]
+#[error("{}", self.reason())]
 pub enum LineFault {
     /// The line has no bytes.
     Empty = 1,
@@ -49,16 +49,6 @@ impl LineFault {
             LineFault::BadCharacter => "bad character",
             LineFault::Memory => "out of memory",
         }
-    }
-}
-
-impl fmt::Display for LineFault {
-    ghost use Rattle.b3_lines.specs.Reasons.{reason_of};
-
-    ghost output = { λ fault. Some (reason_of fault) };
-
-    fn fmt<W: fmt::Write>(&self, f: &mut fmt::Formatter<W>) -> fmt::Result {
-        f.write_str(self.reason())
     }
 }
 

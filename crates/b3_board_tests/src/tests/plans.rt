@@ -30,6 +30,48 @@ fn assert_refused<C: Debug + Drop>(
     assert_same_for(rt, case, made.err(), Some(fault));
 }
 
+// The fault has this number, and is shown as this text.
+fn assert_fault(rt: &impl Abort, alloc: Global, fault: BoardFault, number: u8, text: &str) {
+    let shown = fault.to_string(alloc).expect(rt, "memory");
+    assert_same(rt, fault as u8, number);
+    assert_same(rt, shown.as_str(), text);
+}
+
+#[test]
+fn each_fault_has_its_number_and_text(rt: HostRuntime) {
+    let table = [
+        (
+            BoardFault::BadGrain,
+            1,
+            "the grain is no power of two from 1 to 2^20",
+        ),
+        (
+            BoardFault::BadCut,
+            2,
+            "the spans are no cutting of the input into subtrees",
+        ),
+        (
+            BoardFault::TooLarge,
+            3,
+            "the input has more than 2^30 bytes",
+        ),
+        (
+            BoardFault::TooManySpans,
+            4,
+            "there are more than 1,024 spans",
+        ),
+        (BoardFault::Memory, 5, "out of memory"),
+        (
+            BoardFault::BadWorkers,
+            8,
+            "there are no workers, or more than 64",
+        ),
+    ];
+    for (fault, number, text) in table {
+        assert_fault(&rt, rt.alloc(), fault, number, text);
+    }
+}
+
 #[test]
 fn cuttings_that_are_taken_and_refused(rt: HostRuntime) {
     let alloc = rt.alloc();
