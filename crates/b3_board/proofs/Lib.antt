@@ -26,5 +26,3 @@ pub mod Deposits
 pub mod Working
 -- Sums over what workers hold, and the chunks of the spans that they claimed.
 pub mod WorkerStates
--- the first place of a list and those after it, for work that threads share
-pub mod ThreadParts

@@ -9,4 +9,3 @@ pub mod Entries
 pub mod WorkerRuns
 pub mod SpanHashers
 pub mod WorkerStates
-pub mod Threads

@@ -12,11 +12,9 @@ use crate::input_ledger::OwnDone;
 use crate::source::Source;
 use crate::span_hasher::SpanHasher;
 use b3_core::{Mode, Span, left};
+use b3_threads::PIECE_LEN;
 
 const CHUNK_LEN: u64 = b3_core::CHUNK_LEN as u64;
-
-/// How many bytes a worker reads at a time where its buffer takes no more: they stay in its core's cache.
-pub const PIECE_LEN: usize = 1 << 18;
 
 // So many bytes of a source from an offset on, with a mode, the number of their first chunk, and their cutting into
 // spans of no more than `grain` chunks.

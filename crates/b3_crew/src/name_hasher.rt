@@ -7,10 +7,10 @@ ghost use Rattle.b3_io.specs.Tasks.{IsFit, name_asked, request_report};
 use crate::crew_run::Site;
 use crate::entry::{Entry, Finding};
 use crate::run_input::RunInput;
-use b3_board::PIECE_LEN;
 use b3_core::Mode;
 use b3_hash::{Hasher, Xof};
 use b3_io::{AnyItem, Item, Message, OutputRange, Request, Shelf};
+use b3_threads::PIECE_LEN;
 use std::alloc::{AllocError, Global};
 use std::sync::Wait;
 

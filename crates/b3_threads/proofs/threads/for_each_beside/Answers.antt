@@ -1,7 +1,7 @@
 use Rattle.std.proofs.Common.{ℕ, ◌+◌, refl, arith, subst}
 use Rattle.std.specs.Fork.{ChangesAt}
 use Rattle.std.specs.Prelude.{slice_index_or}
-use Rattle.b3_board.proofs.threads.for_each_beside.Goals as goal
+use Rattle.b3_threads.proofs.threads.for_each_beside.Goals as goal
 
 pub returns-clause-each : goal.returns-clause-each
 returns-clause-each g c i d lt =

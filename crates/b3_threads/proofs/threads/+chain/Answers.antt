@@ -1,7 +1,7 @@
 use Rattle.std.proofs.Common.{rules}
 use Rattle.std.specs.Fork.{AcceptsAt, ChangesAt}
-use Rattle.b3_board.proofs.ThreadParts.{all_first, all_rest, changes_both}
-use Rattle.b3_board.proofs.threads.+chain.Goals as goal
+use Rattle.b3_threads.proofs.ThreadParts.{all_first, all_rest, changes_both}
+use Rattle.b3_threads.proofs.threads.+chain.Goals as goal
 
 pub all_from-one_beside_rest-requires-clause-first : goal.all_from-one_beside_rest-requires-clause-first
 all_from-one_beside_rest-requires-clause-first g t c κs within =

@@ -3,7 +3,7 @@
 
 ghost use Rattle.std.specs.Prelude.{◌≡◌, ℕ, ◌+◌, ◌<◌, ◌≤◌, ◌^◌, length};
 ghost use Rattle.std.specs.Fork.{AcceptsAt, AcceptsEach, ChangesAt, ChangesEach};
-ghost use Rattle.b3_board.specs.Threads.{AllFrom, ChangesFrom};
+ghost use Rattle.b3_threads.specs.Threads.{AllFrom, ChangesFrom};
 ghost use denote.Param.Send.{IsSync, IsSend};
 
 use std::thread::{Threads, join_mut};

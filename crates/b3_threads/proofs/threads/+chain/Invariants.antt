@@ -1,5 +1,5 @@
 use Rattle.std.proofs.Common.{◌+◌, ◌*◌, length}
-use Rattle.b3_board.proofs.threads.+chain.Given as goal
+use Rattle.b3_threads.proofs.threads.+chain.Given as goal
 
 abbrev pub decreases-all_from : goal.decreases-all_from
 decreases-all_from g l = 3 * length l.s.now

@@ -3,7 +3,7 @@ use Rattle.std.proofs.Common.{◌≡◌, ℕ, ◌+◌, ◌-◌, ◌<◌, List, �
 use Rattle.std.proofs.lemmas.Bool.{cases_lt}
 use Rattle.std.proofs.lemmas.List.{get_or_append_left, get_or-append_right}
 use Rattle.std.specs.Prelude.{slice_index_or}
-use Rattle.b3_board.specs.Threads.{AllFrom, ChangesFrom}
+use Rattle.b3_threads.specs.Threads.{AllFrom, ChangesFrom}
 
 in_rest : {X : Type 0} (all xs ys : List X) → all ≡ xs ++ ys → length xs ≡ 1 → (k : ℕ) (d : X)
     → slice_index_or all (1 + k) d ≡ slice_index_or ys k d

@@ -2,7 +2,7 @@ use Rattle.std.proofs.Common.{◌≡◌, ℕ, ◌+◌, ◌<◌, length, arith, s
 use Rattle.std.proofs.lemmas.List.{get_or-set_same, get_or_default}
 use Rattle.std.specs.Fork.{ChangesAt}
 use Rattle.std.specs.Prelude.{slice_index_or, set}
-use Rattle.b3_board.proofs.threads.at_most_one.Goals as goal
+use Rattle.b3_threads.proofs.threads.at_most_one.Goals as goal
 
 pub returns : goal.returns
 returns g c =
