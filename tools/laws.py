@@ -18,7 +18,7 @@ TO_CHECK = (*TO_RUN, ("b3_check/src/check.rt", "run_check"))
 TO_TEXT = (*TO_SUM, ("b3_check/src/sum.rt", "sum_names"), ("b3_check/src/sum.rt", "do_names"),
            ("b3_check/src/engine.rt", "Engine::run"), ("b3_check/src/engine.rt", "Engine::run_items"),
            ("b3_check/src/engine.rt", "Engine::run_as"), ("b3_check/src/engine.rt", "Engine::do_in_turn"),
-           ("b3_check/src/engine.rt", "Engine::message_of"), ("b3_io/src/items.rt", "Request::message"),
+           ("b3_devices/src/devices.rt", "Devices::message_of"), ("b3_io/src/items.rt", "Request::message"),
            ("b3_io/src/message.rt", "Message::of_name"), ("b3_io/src/message.rt", "digest_text"))
 TO_PLAIN = (*TO_TEXT, ("b3_io/src/message.rt", "plain_line"), ("b3_lines/src/writing.rt", "write_line"))
 TO_TAGGED = (*TO_TEXT, ("b3_io/src/message.rt", "tagged_line"), ("b3_lines/src/tagging.rt", "write_tagged"))

@@ -8,8 +8,7 @@ ghost use Rattle.b3_io.specs.Owing.{SaysOwing};
 ghost use Rattle.b3_io.specs.Runs.{CanCount, Runs, Stopped};
 ghost use Rattle.b3_io.specs.declared.items.Item.{Item};
 ghost use Rattle.b3_io.specs.Tallies.{tally_sum};
-ghost use Rattle.b3_io.specs.Tasks.{Task, counted, Finds, IsFit, name_asked, report_of, request_report, task_of, task_script, tasks_script};
-ghost use Rattle.b3_io.specs.Tasks.Task.{Find};
+ghost use Rattle.b3_io.specs.Tasks.{Task, counted, report_of, task_of, tasks_script};
 
 use b3_board::Gate;
 use b3_crew::{
@@ -17,8 +16,8 @@ use b3_crew::{
 };
 use b3_devices::{Devices, Digester};
 use b3_io::{
-    AnyItem, Item, Limits, Message, OutputRange, Pool, READ_LEN, Request, RunFault, Saying, Shelf,
-    Sink, Tally, WorkItems,
+    AnyItem, Item, Limits, Message, OutputRange, Pool, READ_LEN, RunFault, Saying, Shelf, Sink,
+    Tally, WorkItems,
 };
 use std::alloc::{AllocError, Global};
 use std::marker::Brand;
@@ -301,35 +300,15 @@ impl<'c, R: Threads + Wait + Sync, G: Gate + Sync> Engine<'c, R, G> {
         match entry.item() {
             Item::Say(message) => say(devices, message, lines, tally),
             Item::Ask(request) => {
-                let message = self.message_of(devices, request)?;
+                let message = devices.message_of(
+                    &self.pool,
+                    &mut self.digester,
+                    request,
+                    self.limits,
+                )?;
                 say(devices, &message, lines, tally)
             }
         }
-    }
-
-    // What is to be said of a name, which is hashed in its turn.
-    fn message_of<S: Shelf + Send + Sync, O: Sink, E: Sink>(
-        &mut self,
-        devices: &mut Devices<'_, '_, '_, S, O, E>,
-        request: &Request<'_>,
-    ) -> Result<Message, RunFault>
-        requires fit { IsFit self.old.digester.range.length request.now }
-        requires countable { CanCount (io_state_of S.Shelf O.Sink E.Sink devices.old) 1 }
-        ensures finds { Finds self.old.limits (task_script self.old.digester.range (Find (name_asked request.now) (request_report request.now)))
-            (io_state_of S.Shelf O.Sink E.Sink devices.old) (io_state_of S.Shelf O.Sink E.Sink devices.new) result }
-        ensures one { IfOk result (λ message. counted message.tally ≤ 2) }
-        ensures shelf_count { S.failures devices.new.shelf.now ≤ S.failures devices.old.shelf.now + 1 }
-        ensures unsaid { devices.new.out.now ≡ devices.old.out.now }
-        ensures loans { loans devices.new ≡ loans devices.old }
-        ensures limits { self.new.limits ≡ self.old.limits }
-        ensures range { self.new.digester.range ≡ self.old.digester.range }
-    {
-        let whole = devices.hash(&self.pool, &mut self.digester, request.name(), self.limits)?;
-        let digest = match whole {
-            Ok(()) => Ok(self.digester.digest()),
-            Err(why) => Err(why),
-        };
-        Ok(request.message(self.alloc, digest)?)
     }
 }
 

@@ -1,18 +1,19 @@
 //! Where a run reads and writes.
 
-ghost use Rattle.std.specs.Prelude.{◌≡◌, ◌-◌, ◌^◌, ◌<◌, ◌≤◌, OnOk, vec_len};
+ghost use Rattle.std.specs.Prelude.{◌≡◌, ◌+◌, ◌-◌, ◌^◌, ◌<◌, ◌≤◌, IfOk, OnOk, vec_len};
 ghost use Rattle.b3_io.specs.Contents.{input_name};
 ghost use Rattle.b3_io.specs.Owing.{SaysOwing, on_out};
 ghost use Rattle.b3_io.specs.Reading.{Answered, Asks, Hashes, key_answer};
 ghost use Rattle.b3_io.specs.Scripts.Kind.{Key, Listed};
 ghost use Rattle.b3_io.specs.Runs.{CanCount};
-ghost use Rattle.b3_io.specs.Tasks.{Says, report_of};
+ghost use Rattle.b3_io.specs.Tasks.{Finds, IsFit, Says, counted, name_asked, report_of, request_report, task_script};
+ghost use Rattle.b3_io.specs.Tasks.Task.{Find};
 
 use crate::digester::Digester;
 use b3_board::Gate;
 use b3_io::{
-    KeyRead, Limits, ListReader, Message, NoContent, Pool, RunFault, Shelf, Sink, say_after,
-    write_all,
+    KeyRead, Limits, ListReader, Message, NoContent, Pool, Request, RunFault, Shelf, Sink,
+    say_after, write_all,
 };
 use std::sync::Wait;
 use std::thread::Threads;
@@ -62,6 +63,34 @@ impl<'s, 'o, 'e, S: Shelf + Send + Sync, O: Sink, E: Sink> Devices<'s, 'o, 'e, S
         ensures loans { loans self.new ≡ loans self.old }
     {
         digester.hash_name(pool, self.shelf, name, limits)
+    }
+
+    /// What is to be said of a name that is asked for: it is hashed, and its digest, or why there is none, told.
+    pub fn message_of<R: Threads + Wait + Sync, G: Gate + Sync>(
+        &mut self,
+        pool: &Pool<'_, R, G>,
+        digester: &mut Digester,
+        request: &Request<'_>,
+        limits: Limits,
+    ) -> Result<Message, RunFault>
+        requires fit { IsFit digester.old.range.length request.now }
+        requires countable { CanCount (io_state_of S.Shelf O.Sink E.Sink self.old) 1 }
+        requires some_turns { 0 < limits.turns }
+        requires turns { limits.turns ≤ 2 ^ 40 }
+        ensures finds { Finds limits (task_script digester.old.range (Find (name_asked request.now) (request_report request.now)))
+            (io_state_of S.Shelf O.Sink E.Sink self.old) (io_state_of S.Shelf O.Sink E.Sink self.new) result }
+        ensures one { IfOk result (λ message. counted message.tally ≤ 2) }
+        ensures shelf_count { S.failures self.new.shelf.now ≤ S.failures self.old.shelf.now + 1 }
+        ensures unsaid { self.new.out.now ≡ self.old.out.now }
+        ensures loans { loans self.new ≡ loans self.old }
+        ensures range { digester.new.range ≡ digester.old.range }
+    {
+        let whole = self.hash(pool, digester, request.name(), limits)?;
+        let digest = match whole {
+            Ok(()) => Ok(digester.digest()),
+            Err(why) => Err(why),
+        };
+        Ok(request.message(pool.alloc, digest)?)
     }
 
     /// Reads the key, or answers why it cannot be read.
