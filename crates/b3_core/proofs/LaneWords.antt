@@ -1,12 +1,13 @@
 -- What a lane of vectors holds: place by place, after a vector was written, and after a half of G.
 use Rattle.std.proofs.Common.{◌≡◌, ℕ, ◌<◌, List, [], ◌∷◌, length, map, get_or, set, refl, sym, ap, ◌∙◌, inl, inr}
-use Rattle.std.proofs.Common.{arith, bit_xor, w32}
+use Rattle.std.proofs.Common.{arith, bit_xor, replicate, w32}
 use Rattle.std.specs.Int.{rotate_right}
 use Rattle.std.specs.List.{range_with_len}
 use Rattle.std.specs.Simd.Lanes.{zip2}
 use Rattle.std.proofs.Math.ListN.{get_or-map as get_or-of_map}
 use Rattle.std.proofs.lemmas.Bool.{cases_eq}
 use Rattle.std.proofs.lemmas.List.{map-set, length-map, length-set, get_or-set_same, get_or-set_other, get_or-map}
+use Rattle.std.proofs.lemmas.List.{length-replicate, get_or-replicate}
 use Rattle.std.proofs.lemmas.Simd.{length-zip2, get_or-zip2}
 use Rattle.std.proofs.lemmas.List.FromFn.{get_or-map-range_with_len, length-map-range_with_len}
 use Rattle.b3_core.specs.Words.{add32}
@@ -37,6 +38,13 @@ pub wide-map : (rows : ℕ → List ℕ) (n : ℕ) → ((i : ℕ) → i < n → 
 wide-map rows n each = (
   length-map-range_with_len rows 0 n,
   λ i lt. ap length (get_or-map-range_with_len rows 0 n i i [] lt (omega arith)) ∙ each i lt,
+)
+
+-- vectors whose lengths are known
+pub wide-lengths : (n : ℕ) (v : List (List ℕ)) → map length v ≡ replicate n 8 → AreVectors n v
+wide-lengths n v each = (
+  sym (length-map v length) ∙ ap length each ∙ length-replicate n 8,
+  λ i lt. sym (get_or-of_map length v i []) ∙ ap (λ l. get_or l i 0) each ∙ get_or-replicate n i 8 0 lt,
 )
 
 -- a lane after a vector was written

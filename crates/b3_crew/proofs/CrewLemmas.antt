@@ -1,5 +1,5 @@
 -- Items that are taken one by one, done one by one, and found by whom it may be.
-use Rattle.std.proofs.Common.{◌≡◌, ◌⊎◌, ℕ, ◌+◌, ◌^◌, ◌<◌, ◌≤◌, Bool, true, List, [], ◌∷◌, ◌++◌, length, map, Option, None, Some, Result, Ok, Err, IfNone, IfSome, slice_get, refl, sym, ◌∙◌, ap, subst, append_assoc, length-append, arith}
+use Rattle.std.proofs.Common.{◌≡◌, ◌⊎◌, ℕ, ◌+◌, ◌^◌, ◌<◌, ◌≤◌, Bool, true, List, [], ◌∷◌, ◌++◌, length, map, Option, None, Some, Result, Ok, Err, IfNone, IfOk, IfSome, slice_get, refl, sym, ◌∙◌, ap, subst, append_assoc, length-append, arith}
 use Rattle.std.proofs.lemmas.List.{length-map, map-append, nil_from_length}
 use Rattle.b3_io.specs.declared.fault.RunFault.{RunFault}
 use Rattle.b3_io.specs.declared.fault.RunFault.TheVariants.{WriteFault, Memory}
@@ -231,6 +231,14 @@ come {range} {tasks} {left} {start} {now} {fits} {s} {u} {saying} item before so
           saying.tally) parts before.so_far;
       fitting = before.fitting;
     }
+
+-- an item's turn comes after that of an earlier one
+pub turn_after : {N : Type 0} {said shown : AheadState} (first now : ℕ) (result : Result (Option N) RunFault)
+    → first ≤ said.next → shown ≡ said → IfOk result (λ came. IfSome came (λ _. shown.next < now))
+    → IfOk result (λ came. IfSome came (λ _. first < now))
+turn_after first now (Ok (Some entry)) further same turn = omega (arith, ap (λ (ahead : AheadState). ahead.next) same)
+turn_after first now (Ok None) further same turn = tt
+turn_after first now (Err fault) further same turn = tt
 
 -- how many are done before an item
 come_length : {range : OutputRange} {tasks left : List Task} {start now : IoState} {fits : Bool} {u : AheadState}

@@ -15,11 +15,9 @@ use Rattle.b3_io.specs.declared.options.CheckOptions.{CheckOptions}
 use Rattle.b3_io.specs.declared.options.Form.{Form}
 use Rattle.b3_io.specs.declared.options.Limits.{Limits}
 use Rattle.b3_io.specs.Contents.{Contents, HasContent}
-use Rattle.b3_io.specs.Digests.{digest_of, digest_script}
 use Rattle.b3_io.specs.Owing.{RanOwing, SaysOwing, on_out}
-use Rattle.b3_io.specs.Reading.{Digested}
 use Rattle.b3_io.specs.Runs.{Broke, CanCount, IoState, Ran, Stopped, Went}
-use Rattle.b3_io.specs.Scripts.{AgreesWith, Given, Report, answer_of, followed_by, in_turn}
+use Rattle.b3_io.specs.Scripts.{AgreesWith, Given, answer_of, followed_by, in_turn}
 use Rattle.b3_io.specs.Scripts.Kind.{Hashed}
 use Rattle.b3_io.specs.Scripts.Script.{Done, Say}
 use Rattle.b3_io.specs.Sums.{name_report}
@@ -27,7 +25,7 @@ use Rattle.b3_io.specs.Tallies.{no_tally, one_failed, one_missing, tally_sum}
 use Rattle.b3_io.specs.Tasks.{counted, Found, Task, report_of, request_report, task_script, tasks_script}
 use Rattle.b3_crew.specs.Crews.{SoFar}
 use Rattle.b3_crew.proofs.OwingLemmas.{owing_done, owing_found, owing_stopped, owing_then, owing_written, stopped_found}
-use Rattle.b3_io.proofs.RunLemmas.{stopped_answered, stopped_at_once, stopped_early, stopped_said, went_nowhere}
+use Rattle.b3_io.proofs.RunLemmas.{stopped_at_once, stopped_early, stopped_said, went_nowhere}
 use Rattle.b3_io.proofs.ScriptLemmas.{in_turn-append, in_turn-more, joined-nothing}
 
 -- ---- one task
@@ -42,15 +40,6 @@ pub agrees_known : (told : Option Contents) (sure : Bool) (name content : List �
     → AgreesWith told sure Hashed name (Ok content)
 agrees_known None sure name content has = tt
 agrees_known (Some contents) sure name content has = inl (sym (ap (answer_of Hashed) has))
-
--- there is no memory for what is to be said
-pub stopped_unsaid : {limits : Limits} {a b : IoState} {fault : RunFault} {range : OutputRange} {name : List ℕ}
-    {digest : Given (List ℕ)}
-    (says : Given (List ℕ) → Report) → Digested range name digest a b → fault ≡ Memory
-    → Stopped limits (digest_script range name says) a b fault
-stopped_unsaid {limits} {a} {b} {fault} {range} {name} {digest} says digested refused =
-    stopped_answered (λ answer. Say (says (digest_of range answer)) Done) digested.answer digested.answered
-    (stopped_at_once _ b fault refused)
 
 -- what is said of a name is counted at most twice
 pub counted-name_report : (form : Form) (name : List ℕ) (digest : Given (List ℕ))

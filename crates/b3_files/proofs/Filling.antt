@@ -1,5 +1,5 @@
 -- Buffers that are filled read by read.
-use Rattle.std.proofs.Common.{◌≡◌, ℕ, ◌+◌, ◌≤◌, List, [], ◌++◌, length, take, drop, sym, ◌∙◌, ap, append_assoc, length-append, length-drop, arith}
+use Rattle.std.proofs.Common.{◌≡◌, ℕ, ◌+◌, ◌≤◌, List, [], ◌++◌, Option, None, Some, IfSome, length, take, drop, sym, ◌∙◌, ap, append_assoc, length-append, length-drop, arith}
 use Rattle.std.proofs.Math.Seq.{take-append_seam}
 use Rattle.std.proofs.lemmas.List.{drop_all, drop-drop, drop-take, length-take-le, take-append-drop, take-take, take_all}
 use Rattle.b3_io.specs.Contents.{Gives}
@@ -81,3 +81,12 @@ pub taken_more : (content so_far given : List ℕ) (offset n next : ℕ) → so_
 taken_more content so_far given offset n next is more later =
     ap (λ bytes. bytes ++ given) is ∙ ap (λ bytes. take offset content ++ bytes) more ∙ take-behind content offset n
     ∙ ap (λ k. take k content) (sym later)
+
+-- nothing was answered
+pub none_given : (answer : Option ℕ) (P : ℕ → Type 0) → answer ≡ None → IfSome answer P
+none_given answer P is = rw is tt
+
+-- what holds of each number holds of the one that was answered
+pub of_each : (answer : Option ℕ) (P : ℕ → Type 0) → ((n : ℕ) → P n) → IfSome answer P
+of_each None P each = tt
+of_each (Some n) P each = each n

@@ -34,4 +34,6 @@ returns-in_default-state c = record {
 }
 
 pub returns-in-Kept-clause-found : goal.returns-in-Kept-clause-found
-returns-in-Kept-clause-found c = search rules
+returns-in-Kept-clause-found c =
+    let found = c.in-Some-find.ensures.found in
+    (found.0, ap is_kept c.in-Kept.is, rw (found.1, c.if-entries-place.false) (search rules))

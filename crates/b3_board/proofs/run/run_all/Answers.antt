@@ -56,3 +56,28 @@ join_workers-requires-clause-each g c =
     let each = subst (λ (ss : List Span). All (HasEnded c.in_ok-claims.claims ss) c.run_each.new.states)
     (sym c.cutting-spans.ensures.spans) c.run_each.ensures.each in
     subst (All (HasEnded c.in_ok-claims.claims c.cutting-spans.result.now)) (sym items) each
+
+pub returns-clause-claimed : goal.returns-clause-claimed
+returns-clause-claimed g c = rw c.cutting-spans.ensures.spans at c.join_workers.ensures.claimed
+
+pub join_workers-requires-clause-small : goal.join_workers-requires-clause-small
+join_workers-requires-clause-small g c =
+    rw c.cutting-spans.ensures.spans (c.cutting-spans.ensures.few, c.cutting-spans.ensures.small)
+
+pub join_workers-requires-clause-count : goal.join_workers-requires-clause-count
+join_workers-requires-clause-count g c = c.in_ok-claims.ensures.count
+
+pub join_workers-requires-clause-own : goal.join_workers-requires-clause-own
+join_workers-requires-clause-own g c = c.scatter.ensures.own
+
+pub returns-clause-shares : goal.returns-clause-shares
+returns-clause-shares g c = c.join_workers.ensures.shares
+
+pub returns-clause-chunks : goal.returns-clause-chunks
+returns-clause-chunks g c = c.join_workers.ensures.chunks
+
+pub returns-clause-whole : goal.returns-clause-whole
+returns-clause-whole g c = c.join_workers.ensures.whole
+
+pub run_each-requires-clause-count : goal.run_each-requires-clause-count
+run_each-requires-clause-count g c = λ κs lives. c.in_ok-claims.ensures.count ∙ ap length c.cutting-spans.ensures.spans

@@ -1,5 +1,6 @@
 use Rattle.std.proofs.Common.{◌≡◌, ◌+◌, [], ◌∷◌, length, sym, ap, ◌∙◌, arith, length-append}
 use Rattle.std.specs.List.{sum, sum_by}
+use Rattle.std.proofs.lemmas.List.{nil_from_length}
 use Rattle.std.proofs.lemmas.List.Elements.{All-same, All-head, All-tail}
 use Rattle.std.proofs.lemmas.List.Sums.{sum_by-cons, sum_by_push}
 use Rattle.b3_claims.specs.Claiming.{is_set}
@@ -74,3 +75,35 @@ loop-state-preserved g c =
       chunks = omega arith;
       claimed = omega arith;
     }
+
+pub returns-clause-seat_parts : goal.returns-clause-seat_parts
+returns-clause-seat_parts g c =
+    let none = nil_from_length _ (sym c.loop-state.state-iterator.rest.ok.0 ∙ c.in-None.ensures.steps.0) in
+    omega (arith, ap (sum_by seat_parts) none, c.loop-state.invariant.seat_parts)
+
+pub returns-clause-share_parts : goal.returns-clause-share_parts
+returns-clause-share_parts g c =
+    let none = nil_from_length _ (sym c.loop-state.state-iterator.rest.ok.0 ∙ c.in-None.ensures.steps.0) in
+    omega (arith, ap (sum_by share_parts) none, c.loop-state.invariant.share_parts)
+
+pub returns-clause-shares : goal.returns-clause-shares
+returns-clause-shares g c =
+    let none = sym c.loop-state.state-iterator.rest.ok.0 ∙ c.in-None.ensures.steps.0 in
+    omega (arith, none, c.loop-state.invariant.len)
+
+pub returns-clause-seen : goal.returns-clause-seen
+returns-clause-seen g c =
+    let none = sym c.loop-state.state-iterator.rest.ok.0 ∙ c.in-None.ensures.steps.0 in
+    c.loop-state.invariant.seen (omega (arith, none, c.loop-state.invariant.len, c.requires.some.0))
+
+pub returns-clause-chunks : goal.returns-clause-chunks
+returns-clause-chunks g c = c.loop-state.invariant.chunks
+
+pub returns-clause-own : goal.returns-clause-own
+returns-clause-own g c = c.loop-state.invariant.own
+
+pub join-requires : goal.join-requires
+join-requires g c =
+    let ended = HasEnded c.args.claims.now c.args.spans.now in
+    let left = All-same ended _ _ (sym c.in-Some.ensures.steps.0) c.loop-state.invariant.rest in
+    record { own = (c.loop-state.invariant.own, (All-head ended c.in-Some.state _ left).own) }

@@ -1,4 +1,5 @@
-use Rattle.std.proofs.Common.{sum_by, rules, arith, ap, ◌∙◌}
+use Rattle.std.proofs.Common.{sum_by, ◌+◌, length, arith, ap, ◌∙◌}
+use Rattle.std.proofs.lemmas.List.{length_push}
 use Rattle.std.proofs.lemmas.List.Elements.{All-push, All-same}
 use Rattle.std.proofs.lemmas.List.Sums.{sum_by_push}
 use Rattle.b3_board.specs.Shares.{ShareState}
@@ -26,10 +27,10 @@ loop-preserved g c =
     let seat_given = ap (λ (v : View). v.parts) c.split.ensures.given in
     let seat_left = ap (λ (v : View). v.parts) c.split.ensures.kept in
     record {
-      own = search rules;
-      claimed = search rules;
-      chunks = search rules;
-      len = search rules;
+      own = c.split.ensures.own.0;
+      claimed = ap (λ (v : View). v.claimed) c.split.ensures.kept ∙ kept.claimed;
+      chunks = c.split-in-loop.ensures.chunks ∙ kept.chunks;
+      len = ap length items ∙ length_push c.loop.states.items state ∙ ap (λ n. n + 1) kept.len;
       each = All-same (IsNewState claims) _ _ items
           (All-push (IsNewState claims) c.loop.states.items state kept.each
           (record {
@@ -37,8 +38,8 @@ loop-preserved g c =
             claimed = ap (λ (v : View). v.claimed) c.split.ensures.given;
             chunks = ap (λ (h : ShareState). h.chunks) c.split-in-loop.ensures.given;
           }));
-      seat_left = search rules;
-      share_left = search rules;
+      seat_left = omega (arith, seat_left, kept.seat_left, c.loop-test.true, c.requires.parts.0);
+      share_left = omega (arith, share_left, kept.share_left);
       seat_parts = omega (
         arith,
         seats,

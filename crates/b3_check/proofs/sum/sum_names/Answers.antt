@@ -1,4 +1,4 @@
-use Rattle.std.proofs.Common.{◌<◌, ◌^◌, Err, arith, length, refl, subst, sym}
+use Rattle.std.proofs.Common.{◌<◌, ◌^◌, Err, Ok, arith, length, subst, sym}
 use Rattle.std.proofs.lemmas.List.{length-map}
 use Rattle.std.proofs.lemmas.Result.{err_from_is_err_and}
 use Rattle.b3_core.specs.declared.modes.Mode.{Mode}
@@ -7,6 +7,7 @@ use Rattle.b3_io.specs.Runs.{CanCount}
 use Rattle.b3_io.specs.Digests.{range_of}
 use Rattle.b3_io.specs.Operands.{operands_left}
 use Rattle.b3_io.specs.Sums.{names_script}
+use Rattle.b3_io.specs.Tasks.{operand_task}
 use Rattle.b3_io.proofs.RunLemmas.{mode_count, mode_room, runs_in_mode, runs_surely, stopped_at_once, stopped_in_mode}
 use Rattle.b3_check.proofs.SumTasks.{tasks_script-operands}
 use Rattle.b3_check.proofs.sum.sum_names.Goals as goal
@@ -56,3 +57,13 @@ do_names-requires-clause-countable g c = λ _ _.
     let countable : CanCount (seen c.find_mode.new.devices) (length operands) =
     mode_room c.args.options.now.key c.in_ok-mode.mode _ _ (length operands) found c.requires.countable in
     subst (λ n. CanCount (seen c.find_mode.new.devices) n) (sym (length-map operands _)) countable
+
+pub returns-clause-shelf_count : goal.returns-clause-shelf_count
+returns-clause-shelf_count g c =
+    let options = c.args.options.now in
+    omega (
+      arith,
+      mode_count options.key _ _ (Ok c.in_ok-mode.mode) c.in_ok-mode.ensures.found,
+      c.do_names.ensures.shelf_count,
+      length-map (operands_left c.args.operands) (operand_task options.form),
+    )

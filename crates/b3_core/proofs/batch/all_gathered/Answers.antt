@@ -1,9 +1,12 @@
-use Rattle.std.proofs.Common.{ℕ, [], length, get_or, ap, ◌∙◌, sym, arith}
+use Rattle.std.proofs.Common.{ℕ, [], length, get_or, replicate, ap, ◌∙◌, sym, arith}
 use Rattle.std.proofs.Math.ListN.{get_or-map as get_or-of_map}
-use Rattle.std.proofs.lemmas.List.{length-map}
+use Rattle.std.proofs.lemmas.List.{length-map, length-replicate}
 use Rattle.b3_core.proofs.Lists.{elements, map-below}
 use Rattle.b3_core.proofs.LaneWords.{lane-elements}
 use Rattle.b3_core.proofs.batch.all_gathered.Goals as goal
+
+pub words-init : goal.words-init
+words-init g c = (length-replicate g.row.N (replicate 8 0), λ i lt. absurd (omega (arith, lt)))
 
 pub returns-clause-wide : goal.returns-clause-wide
 returns-clause-wide g c = (

@@ -1,4 +1,4 @@
-use Rattle.std.proofs.Common.{◌≡◌, ℕ, ◌%◌, ◌/◌, ◌^◌, List, [], ◌∷◌, ◌++◌, get_or, ap, ◌∙◌}
+use Rattle.std.proofs.Common.{◌≡◌, ℕ, ◌%◌, ◌/◌, ◌^◌, List, [], ◌∷◌, ◌++◌, get_or, lit<, ap, ◌∙◌}
 use Rattle.std.proofs.Math.ListN.{get_or-map as get_or-of_map}
 use Rattle.b3_core.specs.Compression.{compress, output_words}
 use Rattle.b3_core.specs.Lanes.{lane}
@@ -33,3 +33,42 @@ returns c =
     ++ c.last_words8.ensures.lanes j lt i)
     ∙ (λ i. output_words (state i) (lane j c.all_gathered-chains.result))
     ∙ (λ i. compress (chains i) (message i) t_j c.args.b c.args.d)
+
+pub concatenated-requires-2-clause-front : goal.concatenated-requires-2-clause-front
+concatenated-requires-2-clause-front c = c.transposed8-front.ensures.wide.1 1 (lit< tt)
+
+pub concatenated-requires-3-clause-front : goal.concatenated-requires-3-clause-front
+concatenated-requires-3-clause-front c = c.transposed8-front.ensures.wide.1 2 (lit< tt)
+
+pub concatenated-requires-4-clause-front : goal.concatenated-requires-4-clause-front
+concatenated-requires-4-clause-front c = c.transposed8-front.ensures.wide.1 3 (lit< tt)
+
+pub concatenated-requires-5-clause-front : goal.concatenated-requires-5-clause-front
+concatenated-requires-5-clause-front c = c.transposed8-front.ensures.wide.1 4 (lit< tt)
+
+pub concatenated-requires-6-clause-front : goal.concatenated-requires-6-clause-front
+concatenated-requires-6-clause-front c = c.transposed8-front.ensures.wide.1 5 (lit< tt)
+
+pub concatenated-requires-7-clause-front : goal.concatenated-requires-7-clause-front
+concatenated-requires-7-clause-front c = c.transposed8-front.ensures.wide.1 6 (lit< tt)
+
+pub concatenated-requires-8-clause-front : goal.concatenated-requires-8-clause-front
+concatenated-requires-8-clause-front c = c.transposed8-front.ensures.wide.1 7 (lit< tt)
+
+pub concatenated-requires-3-clause-back : goal.concatenated-requires-3-clause-back
+concatenated-requires-3-clause-back c = c.transposed8-back.ensures.wide.1 2 (lit< tt)
+
+pub concatenated-requires-4-clause-back : goal.concatenated-requires-4-clause-back
+concatenated-requires-4-clause-back c = c.transposed8-back.ensures.wide.1 3 (lit< tt)
+
+pub concatenated-requires-5-clause-back : goal.concatenated-requires-5-clause-back
+concatenated-requires-5-clause-back c = c.transposed8-back.ensures.wide.1 4 (lit< tt)
+
+pub concatenated-requires-6-clause-back : goal.concatenated-requires-6-clause-back
+concatenated-requires-6-clause-back c = c.transposed8-back.ensures.wide.1 5 (lit< tt)
+
+pub concatenated-requires-7-clause-back : goal.concatenated-requires-7-clause-back
+concatenated-requires-7-clause-back c = c.transposed8-back.ensures.wide.1 6 (lit< tt)
+
+pub concatenated-requires-8-clause-back : goal.concatenated-requires-8-clause-back
+concatenated-requires-8-clause-back c = c.transposed8-back.ensures.wide.1 7 (lit< tt)

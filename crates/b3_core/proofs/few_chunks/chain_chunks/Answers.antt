@@ -1,4 +1,5 @@
-use Rattle.std.proofs.Common.{◌∙◌, ap, rules}
+use Rattle.std.proofs.Common.{◌∙◌, ap, arith, rules}
+use Rattle.std.proofs.lemmas.List.{length-take}
 use Rattle.b3_core.specs.Nodes.{chaining}
 use Rattle.b3_core.proofs.FewChunks.{lone-chunk}
 use Rattle.b3_core.proofs.few_chunks.chain_chunks.Goals as goal
@@ -10,3 +11,6 @@ returns-in-1 c =
 
 pub returns-in-3-to-4 : goal.returns-in-3-to-4
 returns-in-3-to-4 c = search rules
+
+pub chunk_node-requires : goal.chunk_node-requires
+chunk_node-requires c = omega (arith, length-take 1024 c.args.bytes.now)

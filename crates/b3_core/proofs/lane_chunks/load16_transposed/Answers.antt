@@ -1,9 +1,10 @@
-use Rattle.std.proofs.Common.{◌≡◌, ℕ, ◌+◌, ◌*◌, ◌<◌, List, [], ◌++◌, get_or, map, take, drop, sym, ◌∙◌, arith}
+use Rattle.std.proofs.Common.{◌≡◌, ℕ, ◌+◌, ◌*◌, ◌<◌, List, [], ◌++◌, length, get_or, replicate, map, take, drop, sym}
+use Rattle.std.proofs.Common.{◌∙◌, arith}
 use Rattle.std.specs.List.{range_with_len}
 use Rattle.b3_core.specs.Words.{word_at}
 use Rattle.b3_core.specs.Lanes.{AreVectors, lane, word_at_offset}
 use Rattle.b3_core.proofs.Lists.{map-below}
-use Rattle.b3_core.proofs.LaneWords.{lane-elements}
+use Rattle.b3_core.proofs.LaneWords.{lane-elements, wide-lengths}
 use Rattle.b3_core.proofs.LaneChunks.{word_at_offset-block, words_of-block}
 use Rattle.b3_core.proofs.lane_chunks.load16_transposed.Goals as goal
 
@@ -33,3 +34,16 @@ returns-clause-lanes c j lt =
     (omega arith) (omega arith)
     (c.load4_transposed-d.ensures.lanes j lt) in
     (λ i. a i ++ b i ++ d i ++ e i) ∙ sym (words_of-block bytes start (omega (arith, c.requires j lt)))
+
+pub returns-clause-wide : goal.returns-clause-wide
+returns-clause-wide c =
+    let rows = λ (v : List (List ℕ)). map (λ i. get_or v i []) (range_with_len 0 4) in
+    let four : (v : List (List ℕ)) → AreVectors 4 v → map length (rows v) ≡ replicate 4 8 =
+    λ v wide. map-below (λ i. length (get_or v i [])) (λ i. 8) 4 wide.1 in
+    let a = c.load4_transposed-a in
+    let b = c.load4_transposed-b in
+    let d = c.load4_transposed-c in
+    let e = c.load4_transposed-d in
+    wide-lengths 16 (rows a.result ++ rows b.result ++ rows d.result ++ rows e.result)
+    (λ i. four a.result a.ensures.wide i ++ four b.result b.ensures.wide i ++ four d.result d.ensures.wide i
+    ++ four e.result e.ensures.wide i)

@@ -1,4 +1,4 @@
-use Rattle.std.proofs.Common.{◌≡◌, ℕ, zero, suc, ◌+◌, ◌*◌, ◌<◌, ◌∙◌, List, [], ◌∷◌, length, get_or, refl, arith}
+use Rattle.std.proofs.Common.{◌≡◌, ℕ, zero, suc, ◌+◌, ◌*◌, ◌<◌, ◌∙◌, List, [], ◌∷◌, length, get_or, refl, lit<, arith}
 use Rattle.b3_core.specs.Lanes.{lane, word_at_offset}
 use Rattle.b3_core.proofs.LaneChunks.{exchanged, exchanged-lanes}
 use Rattle.b3_core.proofs.lane_chunks.load4_transposed.Goals as goal
@@ -22,3 +22,15 @@ four_wide p q r s p8 q8 r8 s8 (suc (suc (suc (suc i)))) lt = absurd (omega arith
 
 pub returns-clause-wide : goal.returns-clause-wide
 returns-clause-wide c = (refl, four_wide _ _ _ _ refl refl refl refl)
+
+pub overflow_add-offsets-5 : goal.overflow_add-offsets-5
+overflow_add-offsets-5 c = omega (arith, c.requires 2 (lit< tt))
+
+pub overflow_add-offsets-6 : goal.overflow_add-offsets-6
+overflow_add-offsets-6 c = omega (arith, c.requires 6 (lit< tt))
+
+pub overflow_add-offsets-7 : goal.overflow_add-offsets-7
+overflow_add-offsets-7 c = omega (arith, c.requires 3 (lit< tt))
+
+pub overflow_add-offsets-8 : goal.overflow_add-offsets-8
+overflow_add-offsets-8 c = omega (arith, c.requires 7 (lit< tt))

@@ -1,4 +1,5 @@
-use Rattle.std.proofs.Common.{ℕ, ◌+◌, length, sym, ap, ◌∙◌}
+use Rattle.std.proofs.Common.{ℕ, ◌+◌, List, length, sym, ap, ◌∙◌, arith}
+use Rattle.std.proofs.lemmas.List.{length-take}
 use Rattle.b3_core.specs.Nodes.{chaining}
 use Rattle.b3_core.specs.Tree.{IsLeft, chunks, parent_node, top}
 use Rattle.b3_core.proofs.FewChunks.{each-back, each-front}
@@ -32,3 +33,17 @@ returns c =
     ∙ ap (λ xs. chaining (top mode (first + l) xs)) c.split_at.ensures.back in
     c.parent_node.ensures ∙ (λ i. parent_node mode (left_is i) (right_is i))
     ∙ sym (top-parent mode first l bytes c.requires.some is_left)
+
+pub slice_bounds-chainings-end : goal.slice_bounds-chainings-end
+slice_bounds-chainings-end c = omega arith
+
+pub slice_bounds-split_at-end : goal.slice_bounds-split_at-end
+slice_bounds-split_at-end c = omega (arith, length-take {A = List ℕ})
+
+pub chaining_from_chunks-right_chaining-requires-clause-count :
+    goal.chaining_from_chunks-right_chaining-requires-clause-count
+chaining_from_chunks-right_chaining-requires-clause-count c = omega (arith, length-take {A = List ℕ})
+
+pub chaining_from_chunks-right_chaining-requires-clause-first :
+    goal.chaining_from_chunks-right_chaining-requires-clause-first
+chaining_from_chunks-right_chaining-requires-clause-first c = omega (arith, length-take {A = List ℕ})

@@ -1,9 +1,17 @@
 use Rattle.std.proofs.Common.{◌≡◌, ◌<◌, ℕ, T, ltb, List, [], length, get_or, lit<, sym, ◌∙◌}
 use Rattle.std.proofs.lemmas.List.{length-map}
+use Rattle.b3_core.specs.Compression.{half_g}
 use Rattle.b3_core.specs.Lanes.{AreVectors, lane}
 use Rattle.b3_core.proofs.Rounds.{columns_together, diagonals_together, round-together}
 use Rattle.b3_core.proofs.LaneWords.{lane-at}
 use Rattle.b3_core.proofs.lanes.round8.Goals as goal
+
+-- a half of G after what the halves before it gave
+then : (a b c d x r s : ℕ) {w v u : List ℕ} → w ≡ half_g v a b c d x r s → v ≡ u → w ≡ half_g u a b c d x r s
+then a b c d x r s {w} {v} {u} is before = is ∙ (λ k. half_g (before k) a b c d x r s)
+
+pub returns-clause-wide : goal.returns-clause-wide
+returns-clause-wide c = c.half_g8-16.ensures.wide
 
 pub returns-clause-lanes : goal.returns-clause-lanes
 returns-clause-lanes c j lt =
@@ -11,25 +19,24 @@ returns-clause-lanes c j lt =
     let m = c.args.m.now in
     let word : (λ (i : ℕ). get_or (get_or m i []) j 0) ≡ (λ (i : ℕ). get_or (lane j m) i 0) =
     λ k i. sym (lane-at j i m) k in
-    rw (
-      c.half_g8-16.ensures.lanes j lt,
-      c.half_g8-15.ensures.lanes j lt,
-      c.half_g8-14.ensures.lanes j lt,
-      c.half_g8-13.ensures.lanes j lt,
-      c.half_g8-12.ensures.lanes j lt,
-      c.half_g8-11.ensures.lanes j lt,
-      c.half_g8-10.ensures.lanes j lt,
-      c.half_g8-9.ensures.lanes j lt,
-      c.half_g8-8.ensures.lanes j lt,
-      c.half_g8-7.ensures.lanes j lt,
-      c.half_g8-6.ensures.lanes j lt,
-      c.half_g8-5.ensures.lanes j lt,
-      c.half_g8-4.ensures.lanes j lt,
-      c.half_g8-3.ensures.lanes j lt,
-      c.half_g8-2.ensures.lanes j lt,
-      c.half_g8.ensures.lanes j lt,
-    ) ((λ k. diagonals_together (columns_together (lane j v) (word k)) (word k))
-    ∙ round-together (lane j v) (lane j m) (length-map v _ ∙ c.requires.wide.0))
+    then _ _ _ _ _ _ _ (c.half_g8-16.ensures.lanes j lt)
+    (then _ _ _ _ _ _ _ (c.half_g8-15.ensures.lanes j lt)
+    (then _ _ _ _ _ _ _ (c.half_g8-14.ensures.lanes j lt)
+    (then _ _ _ _ _ _ _ (c.half_g8-13.ensures.lanes j lt)
+    (then _ _ _ _ _ _ _ (c.half_g8-12.ensures.lanes j lt)
+    (then _ _ _ _ _ _ _ (c.half_g8-11.ensures.lanes j lt)
+    (then _ _ _ _ _ _ _ (c.half_g8-10.ensures.lanes j lt)
+    (then _ _ _ _ _ _ _ (c.half_g8-9.ensures.lanes j lt)
+    (then _ _ _ _ _ _ _ (c.half_g8-8.ensures.lanes j lt)
+    (then _ _ _ _ _ _ _ (c.half_g8-7.ensures.lanes j lt)
+    (then _ _ _ _ _ _ _ (c.half_g8-6.ensures.lanes j lt)
+    (then _ _ _ _ _ _ _ (c.half_g8-5.ensures.lanes j lt)
+    (then _ _ _ _ _ _ _ (c.half_g8-4.ensures.lanes j lt)
+    (then _ _ _ _ _ _ _ (c.half_g8-3.ensures.lanes j lt)
+    (then _ _ _ _ _ _ _ (c.half_g8-2.ensures.lanes j lt)
+    (c.half_g8.ensures.lanes j lt)))))))))))))))
+    ∙ (λ k. diagonals_together (columns_together (lane j v) (word k)) (word k))
+    ∙ round-together (lane j v) (lane j m) (length-map v _ ∙ c.requires.wide.0)
 
 -- the places and the turns of a step are as they must be
 allowed : (a b c d r s : ℕ) (v : List (List ℕ)) (x : List ℕ)

@@ -3,7 +3,7 @@ use Rattle.std.specs.List.{range_with_len}
 use Rattle.std.specs.Simd.Lanes.{pick_l}
 use Rattle.b3_core.proofs.Lists.{below_eight, elements}
 use Rattle.b3_core.proofs.LaneChunks.{exchanged}
-use Rattle.b3_core.proofs.LaneWords.{lane-elements}
+use Rattle.b3_core.proofs.LaneWords.{lane-elements, wide-lengths}
 use Rattle.b3_core.proofs.lanes.transposed8.Goals as goal
 
 -- the front or the back halves of two rows, joined
@@ -30,6 +30,11 @@ turned-columns at =
     below_eight (λ j. get_or (turned (exchanged (row at 0) (row at 1) (row at 2) (row at 3))
     (exchanged (row at 4) (row at 5) (row at 6) (row at 7))) j [] ≡ map (λ i. at i j) (range_with_len 0 8))
     refl refl refl refl refl refl refl refl
+
+pub returns-clause-wide : goal.returns-clause-wide
+returns-clause-wide c =
+    let v = λ (i : ℕ). get_or c.args.v.now i [] in
+    wide-lengths 8 (turned (exchanged (v 0) (v 1) (v 2) (v 3)) (exchanged (v 4) (v 5) (v 6) (v 7))) refl
 
 pub returns-clause-lanes : goal.returns-clause-lanes
 returns-clause-lanes c j lt =

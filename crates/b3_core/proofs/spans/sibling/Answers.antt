@@ -64,3 +64,10 @@ returns-clause-found c =
 pub returns-clause-only : goal.returns-clause-only
 returns-clause-only c = λ other siblings.
     ap Some (only_sibling c.args.n c.args.span _ other c.requires.some (returns-clause-found c) siblings)
+
+pub returns-then-span-eq0-clause-there : goal.returns-then-span-eq0-clause-there
+returns-then-span-eq0-clause-there c =
+    (λ _. has_parent c.args.n c.args.span _ c.requires.some (returns-then-span-eq0-clause-found c), λ _. refl)
+
+pub returns-clause-there : goal.returns-clause-there
+returns-clause-there c = (λ _. has_parent c.args.n c.args.span _ c.requires.some (returns-clause-found c), λ _. refl)

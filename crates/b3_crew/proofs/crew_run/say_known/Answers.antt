@@ -3,7 +3,7 @@ use Rattle.std.proofs.lemmas.Result.{err_from_is_err_and}
 use Rattle.std.specs.Arc.{arc_value}
 use Rattle.b3_crew.specs.Crews.{IsMessageFor}
 use Rattle.b3_io.specs.Runs.{io_state}
-use Rattle.b3_crew.proofs.CrewLemmas.{at_within, come, come_counts, come_failures, found_for_item, has_stopped, under_way_said}
+use Rattle.b3_crew.proofs.CrewLemmas.{at_within, come, come_counts, come_failures, come_room, found_for_item, has_stopped, under_way_said}
 use Rattle.b3_crew.proofs.crew_run.say_known.Goals as goal
 
 pub returns-in_default-said-clause-said : goal.returns-in_default-said-clause-said
@@ -51,9 +51,12 @@ returns-in_default-clause-said g c = rw c.in_default.ensures.same c.items.invari
 pub overflow_add-saying : goal.overflow_add-saying
 overflow_add-saying g c =
     let item = (arc_value c.in-Some.entry).1 in
-    let before = c.items.invariant.before in
-    let came = come item before c.in-Some.ensures.some c.in-Some.ensures.number in
-    omega (arith, come_failures item c.in-Some-said.failures came before.countable c.in-Some-said.ensures.one)
+    omega (
+      arith,
+      come_failures item c.in-Some-said.failures
+          (come item c.items.invariant.before c.in-Some.ensures.some c.in-Some.ensures.number) c.requires.before.countable
+          c.in-Some-said.ensures.one,
+    )
 
 pub count-requires : goal.count-requires
 count-requires g c =
@@ -67,3 +70,22 @@ items-smaller g c = omega (arith, ap length c.in-Some.ensures.some)
 
 pub returns-clause-said : goal.returns-clause-said
 returns-clause-said g c = c.items.invariant.before
+
+pub say_after-requires : goal.say_after-requires
+say_after-requires g c =
+    let item = (arc_value c.in-Some.entry).1 in
+    come_room item (come item c.items.invariant.before c.in-Some.ensures.some c.in-Some.ensures.number)
+    c.requires.before.countable
+
+pub returns-in_default-said-clause-further : goal.returns-in_default-said-clause-further
+returns-in_default-said-clause-further g c = omega (arith, c.items.invariant.further, c.in-Some.ensures.number)
+
+pub returns-in_default-said-clause-turn : goal.returns-in_default-said-clause-turn
+returns-in_default-said-clause-turn g c = omega (arith, c.items.invariant.further, c.in-Some.ensures.number)
+
+pub returns-in_err-say_after-clause-further : goal.returns-in_err-say_after-clause-further
+returns-in_err-say_after-clause-further g c = omega (arith, c.items.invariant.further, c.in-Some.ensures.number)
+
+pub returns-in_err-say_after-clause-turn : goal.returns-in_err-say_after-clause-turn
+returns-in_err-say_after-clause-turn g c =
+    rw (err_from_is_err_and c.from_residual.result c.from_residual.ensures.1).1 tt

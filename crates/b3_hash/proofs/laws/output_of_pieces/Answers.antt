@@ -1,8 +1,9 @@
 use Rattle.std.proofs.Common.{rules, ◌≡◌, ℕ, ◌+◌, ◌<◌, ◌≤◌, ◌++◌, ◌∷◌, ◌∙◌, List, Bor, [], length, take, get_or, sym, ap, subst, arith}
-use Rattle.std.proofs.lemmas.List.{take_more, append-nil, length-append}
+use Rattle.std.proofs.lemmas.List.{take_all, take_more, append-nil, length-append}
 use Rattle.std.proofs.lemmas.Grind.{flat_map-append}
 use Rattle.std.proofs.lemmas.List.Concat.{length-flat_map}
 use Rattle.std.proofs.lemmas.List.Sums.{sum_by_more_le}
+use Rattle.b3_core.specs.Tree.{top}
 use Rattle.b3_hash.specs.Hashers.{StandsFor}
 use Rattle.b3_hash.specs.Laws.{concatenated}
 use Rattle.b3_hash.proofs.laws.output_of_pieces.Goals as goal
@@ -53,3 +54,10 @@ loop-piece-preserved c =
       );
       stands_for = subst (StandsFor c.update.new.self) (sym more) (ok (concatenated (take i pieces)) held.stands_for);
     }
+
+pub returns : goal.returns
+returns c =
+    let pieces = c.args.pieces.now in
+    let held = c.loop-piece.invariant in
+    let all = ap concatenated (take_all c.loop-piece.piece-index pieces c.loop-piece-test.false) in
+    c.finish.ensures.output _ held.stands_for ∙ (λ j. record { node = top (held.mode j) 0 (all j); place = 0 })

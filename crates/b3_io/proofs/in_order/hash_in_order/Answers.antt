@@ -1,7 +1,7 @@
-use Rattle.std.proofs.Common.{◌++◌, ◌∙◌, Result, Ok, Err, IsSome, OnErr, take, sym, subst, arith, rules}
+use Rattle.std.proofs.Common.{ℕ, ◌+◌, [], refl, ◌++◌, ◌∙◌, Result, Ok, Err, IsSome, OnErr, take, sym, subst, arith, rules}
 use Rattle.std.proofs.lemmas.List.{length-take-le}
-use Rattle.b3_io.specs.Reading.{IsFilled}
-use Rattle.b3_io.proofs.ReadLemmas.{read_endless, read_more}
+use Rattle.b3_io.specs.Reading.{IsFilled, is_unread}
+use Rattle.b3_io.proofs.ReadLemmas.{read_none, read_endless, read_more}
 use Rattle.b3_io.proofs.in_order.hash_in_order.Goals as goal
 
 pub fills-preserved : goal.fills-preserved
@@ -55,4 +55,28 @@ pub returns-then-count-buffer-clause-whole : goal.returns-then-count-buffer-clau
 returns-then-count-buffer-clause-whole g c = search rules
 
 pub returns-then-count-buffer-clause-count : goal.returns-then-count-buffer-clause-count
-returns-then-count-buffer-clause-count g c = search rules
+returns-then-count-buffer-clause-count g c =
+    c.in_ok-count.ensures.count ∙ (λ j. c.fills.invariant.count j + is_unread {T = ℕ} (Ok (c.in-Some.is j)))
+
+pub returns-in_default-clause-count : goal.returns-in_default-clause-count
+returns-in_default-clause-count g c =
+    c.in_ok-count.ensures.count ∙ (λ j. c.fills.invariant.count j + is_unread {T = ℕ} (Ok (c.in_default.is j)))
+
+pub fills-init : goal.fills-init
+fills-init g c =
+    record {
+      before = [];
+      stands = c.new-hasher.ensures.stands_for;
+      read = read_none _ _ _;
+      mode = c.new-hasher.ensures.mode;
+      few = omega (arith, c.new-hasher.ensures.len);
+      some = c.requires.some_turns;
+      count = refl;
+      told = refl;
+      still_sure = refl;
+    }
+
+pub fills-smaller : goal.fills-smaller
+fills-smaller g c =
+    let filled = rw c.in-Some.is at c.in_ok-count.ensures.filled in
+    filled.fewer

@@ -65,4 +65,7 @@ pub returns-clause-book : goal.returns-clause-book
 returns-clause-book g c = search rules
 
 pub returns-clause-share : goal.returns-clause-share
-returns-clause-share g c = cc
+returns-clause-share g c = c.credit.ensures.share
+
+pub close_all-count-requires : goal.close_all-count-requires
+close_all-count-requires g c = rw c.as_mut_slice.ensures.value (record { lawful = c.self.invariant.lawful })

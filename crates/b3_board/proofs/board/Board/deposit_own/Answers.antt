@@ -1,4 +1,4 @@
-use Rattle.std.proofs.Common.{◌≡◌, ◌≢◌, ℕ, ◌+◌, List, None, map, set, sum_by, rules, arith, refl, sym, subst, ap, ◌∙◌}
+use Rattle.std.proofs.Common.{◌≡◌, ◌≢◌, ℕ, ◌+◌, List, None, map, set, sum_by, arith, refl, sym, subst, ap, ◌∙◌}
 use Rattle.std.proofs.lemmas.Bool.{false≢true}
 use Rattle.std.proofs.lemmas.List.{with_items_is}
 use Rattle.std.specs.List.{Contains}
@@ -42,12 +42,12 @@ returns-clause-step g c =
     let l = g.L.InputLedger in
     let found = rw c.as_slice.ensures.value at c.in-Some.ensures.found in
     let opens : map open_span c.close_span.new.entries ≡ set (map open_span board.entries.items) c.in-Some.place None =
-    search (rules, c.close_span.ensures.opens, c.as_mut_slice.ensures.value) in
+    rw c.as_mut_slice.ensures.value at c.close_span.ensures.opens in
     let span_is = ap (λ (d : Piece). d.span) c.own.view_is in
     let closed : Span = (at board.entries.items c.in-Some.place).span in
     let joins : (k : ℕ) → sum_by (kept_chunk k) c.close_span.new.entries
     ≡ sum_by (kept_chunk k) board.entries.items + chunk_in k closed.first closed.count =
-    λ k. search (rules, c.close_span.ensures.chunks k, c.as_mut_slice.ensures.value) in
+    λ k. rw c.as_mut_slice.ensures.value at (c.close_span.ensures.chunks k) in
     let of : List Entry → ℕ → BoardState = state_of l.input l.mode l.first in
     let step = deposited l.input l.mode l.first board.entries.items c.close_span.new.entries c.in-Some.place
     c.args.own.span board.account.chunks found.1 (found.2 ∙ span_is) opens joins in
@@ -70,9 +70,9 @@ invariant_of-self g c =
     let found = rw c.as_slice.ensures.value at c.in-Some.ensures.found in
     let count : sum_by kept_count c.close_span.new.entries
     ≡ sum_by kept_count board.entries.items + (at board.entries.items c.in-Some.place).span.count =
-    search (rules, c.close_span.ensures.count, c.as_mut_slice.ensures.value) in
+    rw c.as_mut_slice.ensures.value at c.close_span.ensures.count in
     let opens : map open_span c.close_span.new.entries ≡ set (map open_span board.entries.items) c.in-Some.place None =
-    search (rules, c.close_span.ensures.opens, c.as_mut_slice.ensures.value) in
+    rw c.as_mut_slice.ensures.value at c.close_span.ensures.opens in
     let items : (with_items board.entries c.close_span.new.entries).items ≡ c.close_span.new.entries =
     with_items_is board.entries c.close_span.new.entries
     (same_length board.entries.items c.close_span.new.entries c.in-Some.place opens ∙ sym board.entries.ok.0) in
@@ -105,3 +105,9 @@ close_span-requires-clause-top g c =
     let top : IsNodeOf l.input l.mode l.first (at c.self.inside.entries.items c.in-Some.place).span c.own.inside.node =
     subst (λ (s : Span). IsNodeOf l.input l.mode l.first s c.own.inside.node) (sym found.2) c.own.invariant.node_is in
     rw c.as_mut_slice.ensures.value top
+
+pub close_span-requires-clause-lawful : goal.close_span-requires-clause-lawful
+close_span-requires-clause-lawful g c = rw c.as_mut_slice.ensures.value c.self.invariant.lawful
+
+pub find_open-requires : goal.find_open-requires
+find_open-requires g c = rw c.as_slice.ensures.value c.self.invariant.lawful.sound.in_order

@@ -47,3 +47,6 @@ returns-clause-some g c = λ h.
 
 pub returns-clause-lawful : goal.returns-clause-lawful
 returns-clause-lawful g c = IsLawful-seen c.self.invariant c.self.view_is
+
+pub find_open-requires : goal.find_open-requires
+find_open-requires g c = rw c.as_slice.ensures.value c.self.invariant.lawful.sound.in_order

@@ -1,9 +1,9 @@
-use Rattle.std.proofs.Common.{ℕ, refl}
+use Rattle.std.proofs.Common.{ℕ, ◌<◌, IfOk, IfSome, arith, refl, subst}
 use Rattle.std.proofs.lemmas.Result.{err_from_is_err_and}
 use Rattle.std.specs.Arc.{arc_value}
 use Rattle.b3_devices.specs.Devices.{io_state_of}
 use Rattle.b3_io.specs.declared.items.Item.{Item}
-use Rattle.b3_crew.proofs.CrewLemmas.{counted_state, has_refused, led_counted, led_fits, led_popped, under_way_taken}
+use Rattle.b3_crew.proofs.CrewLemmas.{at_within, counted_state, has_refused, led_counted, led_fits, led_popped, under_way_taken}
 use Rattle.b3_check.proofs.engine.Engine.next_in_turn.Goals as goal
 
 pub returns-in_err-take_items-clause-led : goal.returns-in_err-take_items-clause-led
@@ -34,3 +34,13 @@ returns-clause-led g c =
     (io_state_of g.S.Shelf g.O.Sink g.E.Sink new.devices) (g.P.WorkItems.fits new.work g.L.RunInput.range.length) new.ahead
     new.saying (λ entry. (arc_value {X = ℕ × Item} entry).1) c.lead_crew-led.result _ c.lead_crew-led.ensures.led
     (counted_state _ _ new.saying.uncounted counted.told counted.still_sure counted.count refl refl)
+
+pub pop-requires : goal.pop-requires
+pop-requires g c =
+    omega (arith, c.in_ok-take_items.ensures.next, at_within c.requires.before.at, c.requires.before.few)
+
+pub returns-clause-turn : goal.returns-clause-turn
+returns-clause-turn g c =
+    let led = c.lead_crew-led in
+    subst (λ first. IfOk led.result (λ came. IfSome came (λ _. first < led.new.ahead.next))) c.in_ok-take_items.ensures.next
+    led.ensures.turn

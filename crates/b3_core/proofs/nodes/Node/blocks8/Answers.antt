@@ -48,3 +48,9 @@ returns c =
     sym (take_all (64 * c.lanes.j) c.lanes.out (omega (arith, c.lanes.invariant.0)))
     ∙ c.lanes.invariant.1
     ∙ ap (output_bytes c.args.self.now (64 * c.args.first)) all
+
+pub concatenated-words-requires-clause-front : goal.concatenated-words-requires-clause-front
+concatenated-words-requires-clause-front c = c.transposed8-front.ensures.wide.1 c.lanes.j c.lanes-test.true
+
+pub concatenated-words-requires-clause-back : goal.concatenated-words-requires-clause-back
+concatenated-words-requires-clause-back c = c.transposed8-back.ensures.wide.1 c.lanes.j c.lanes-test.true

@@ -30,3 +30,18 @@ pub returns-in_default-2-clause-digest : goal.returns-in_default-2-clause-digest
 returns-in_default-2-clause-digest g c =
     let failed = rw c.in_default-2.is at c.in_ok-output.ensures.whole in
     digest_none _ _ _ _ CannotRead (agrees_failed _ _ Hashed _ (sym c.begin.ensures.still_sure ∙ failed))
+
+pub returns-clause-told : goal.returns-clause-told
+returns-clause-told g c = c.hash_rest.ensures.told ∙ c.begin.ensures.told
+
+pub returns-clause-still_sure : goal.returns-clause-still_sure
+returns-clause-still_sure g c = c.hash_rest.ensures.still_sure ∙ c.begin.ensures.still_sure
+
+pub returns-clause-range : goal.returns-clause-range
+returns-clause-range g c = c.take_digest.ensures.range ∙ c.hash_rest.ensures.range
+
+pub returns-in_default-2-clause-told : goal.returns-in_default-2-clause-told
+returns-in_default-2-clause-told g c = c.hash_rest.ensures.told ∙ c.begin.ensures.told
+
+pub returns-in_default-2-clause-still_sure : goal.returns-in_default-2-clause-still_sure
+returns-in_default-2-clause-still_sure g c = c.hash_rest.ensures.still_sure ∙ c.begin.ensures.still_sure

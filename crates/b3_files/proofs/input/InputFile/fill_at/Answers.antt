@@ -1,7 +1,8 @@
-use Rattle.std.proofs.Common.{◌≡◌, ℕ, ◌+◌, ◌-◌, ◌<◌, ◌≤◌, List, ◌++◌, length, take, drop, sym, ◌∙◌, ap, length-take, rules, arith}
+use Rattle.std.proofs.Common.{◌≡◌, false, min, ◌==◌, ℕ, ◌+◌, ◌-◌, ◌<◌, ◌≤◌, List, ◌++◌, length, take, drop, refl, sym, ◌∙◌, ap, length-append, length-take, arith}
 use Rattle.std.proofs.lemmas.List.{drop-drop, length-take-le, take-append-le, take_all}
+use Rattle.std.proofs.lemmas.Bool.Decides.{nat_tests}
 use Rattle.std.proofs.Math.Seq.{take-append-add}
-use Rattle.b3_files.proofs.Filling.{taken_more}
+use Rattle.b3_files.proofs.Filling.{none_given, taken_more}
 use Rattle.b3_files.proofs.input.InputFile.fill_at.Goals as goal
 
 -- a front that is not filled has all that is left
@@ -28,34 +29,118 @@ said_so : (content bytes : List ℕ) (n m a b : ℕ) → bytes ≡ take n (drop 
 said_so content bytes n m a b is count offset =
     is ∙ ap (λ k. take k (drop a content)) count ∙ ap (λ k. take m (drop k content)) offset
 
-pub returns-then-in_front-seam-clause-bytes : goal.returns-then-in_front-seam-clause-bytes
-returns-then-in_front-seam-clause-bytes g c = λ tells.
-    let content = g.P.Stream.content c.args.self.now.file in
-    let start = c.args.self.now.start + c.args.offset in
-    let fits : c.in_ok-in_front.in_front ≤ length c.fill_at-2.new.buffer = search (rules, arith) in
-    let within : c.min-seam.result ≤ length c.args.buffer.now = search (rules, arith) in
-    let count : length c.move_on.new.buffer ≡ c.min-seam.result = search (rules, arith) in
-    let offset : c.in_ok-start.start ≡ start = search rules in
-    front_alone (drop start content) c.fill_at-2.new.buffer c.fill_at.new.buffer c.in_ok-in_front.in_front
-    c.min-seam.result (length c.args.buffer.now) c.if-in_front-seam.true within fits
-    (said_so content _ _ c.min-seam.result _ start (c.in_ok-in_front.ensures.bytes tells) count offset)
+-- two parts of a buffer, each as long as it was
+parts_len : (front back : List ℕ) (seam all : ℕ) → length front ≡ seam → length back + seam ≡ all
+    → length (front ++ back) ≡ all
+parts_len front back seam all size others = omega (arith, length-append front back)
 
-pub returns-clause-bytes : goal.returns-clause-bytes
-returns-clause-bytes g c = λ tells.
+-- how many bytes there are, in the front or in both parts
+front_within : (n seam others all : ℕ) → n < seam → others + seam ≡ all → n ≤ all
+front_within n seam others all short parts = omega arith
+
+both_within : (n seam others all : ℕ) → n ≤ others → others + seam ≡ all → seam + n ≤ all
+both_within n seam others all within parts = omega arith
+
+some_front : (seam all size : ℕ) → false ≡ (all == 0) → seam ≡ min all 65536 → size ≡ seam → 0 < size
+some_front seam all size some front is = grind (arith, nat_tests)
+
+pub returns-then-in_front-seam : goal.returns-then-in_front-seam
+returns-then-in_front-seam g c =
     let content = g.P.Stream.content c.args.self.now.file in
     let start = c.args.self.now.start + c.args.offset in
     let seam = c.min-seam.result in
     let all = length c.args.buffer.now in
-    let within : seam ≤ all = search (rules, arith) in
-    let size : length c.fill_at-2.new.buffer ≡ seam = search (rules, arith) in
-    let fits : c.in_ok-in_back.in_back ≤ length c.fill_at.new.buffer = search (rules, arith) in
-    let filled : seam ≡ c.in_ok-in_front.in_front = search (rules, arith) in
-    let count : length c.move_on.new.buffer ≡ seam = search (rules, arith) in
-    let offset : c.in_ok-start.start ≡ start = search rules in
-    let behind : c.in_ok-checked_add.field-0 ≡ start + seam = search (rules, arith) in
-    let in_front = said_so content _ _ seam _ start (c.in_ok-in_front.ensures.bytes tells) count offset in
-    let others : length c.split_at_mut-front.result.1.now ≡ all - seam = search (rules, arith) in
-    let in_back = said_so content _ _ (all - seam) _ (start + seam) (c.in_ok-in_back.ensures.bytes tells) others behind in
-    front_and_back (drop start content) c.fill_at-2.new.buffer c.fill_at.new.buffer c.in_ok-in_back.in_back seam all
-    within size fits (ap (λ k. take k c.fill_at-2.new.buffer) filled ∙ in_front)
-    (in_back ∙ ap (take (all - seam)) (sym (drop-drop seam start content)))
+    let parts = c.split_at_mut-front.ensures in
+    let fits : c.in_ok-in_front.in_front ≤ length c.fill_at-2.new.buffer =
+    omega (arith, c.in_ok-in_front.ensures.within, c.fill_at-2.ensures.len) in
+    let within : seam ≤ all = omega (arith, parts.back_len) in
+    let count = c.move_on.ensures.len ∙ parts.front_len in
+    record {
+      len = parts_len _ _ seam all (c.fill_at-2.ensures.len ∙ count)
+          (ap (λ n. n + seam) c.fill_at.ensures.len ∙ parts.back_len);
+      within = front_within _ seam _ all c.if-in_front-seam.true parts.back_len;
+      bytes = λ tells.
+          front_alone (drop start content) c.fill_at-2.new.buffer c.fill_at.new.buffer c.in_ok-in_front.in_front seam all
+          c.if-in_front-seam.true within fits
+          (said_so content _ _ seam _ start (c.in_ok-in_front.ensures.bytes tells) count c.in_ok-start.ensures.1);
+    }
+
+pub returns : goal.returns
+returns g c =
+    let content = g.P.Stream.content c.args.self.now.file in
+    let start = c.args.self.now.start + c.args.offset in
+    let seam = c.min-seam.result in
+    let all = length c.args.buffer.now in
+    let parts = c.split_at_mut-front.ensures in
+    let within : seam ≤ all = omega (arith, parts.back_len) in
+    let count = c.move_on.ensures.len ∙ parts.front_len in
+    let size = c.fill_at-2.ensures.len ∙ count in
+    let fits : c.in_ok-in_back.in_back ≤ length c.fill_at.new.buffer =
+    omega (arith, c.in_ok-in_back.ensures.within, c.fill_at.ensures.len) in
+    -- the test is not named, so that a wrong one is refused here
+    let filled : seam ≡ c.in_ok-in_front.in_front = omega (arith, c.in_ok-in_front.ensures.within, count) in
+    let offset = c.in_ok-start.ensures.1 in
+    let behind = c.in_ok-checked_add.ensures.1 ∙ ap (λ k. k + seam) offset in
+    let others : length c.split_at_mut-front.result.1.now ≡ all - seam = omega (arith, parts.back_len) in
+    record {
+      len = parts_len _ _ seam all size (ap (λ n. n + seam) c.fill_at.ensures.len ∙ parts.back_len);
+      within = both_within _ _ _ all c.in_ok-in_back.ensures.within parts.back_len;
+      bytes = λ tells.
+          let in_front = said_so content _ _ seam _ start (c.in_ok-in_front.ensures.bytes tells) count offset in
+          let in_back =
+          said_so content _ _ (all - seam) _ (start + seam) (c.in_ok-in_back.ensures.bytes tells) others behind in
+          front_and_back (drop start content) c.fill_at-2.new.buffer c.fill_at.new.buffer c.in_ok-in_back.in_back seam all
+          within size fits (ap (λ k. take k c.fill_at-2.new.buffer) filled ∙ in_front)
+          (in_back ∙ ap (take (all - seam)) (sym (drop-drop seam start content)));
+    }
+
+pub move_on-requires : goal.move_on-requires
+move_on-requires g c =
+    let front = c.split_at_mut-front.ensures.front_len in
+    record { buffer = some_front _ _ _ c.if-is_empty.ensures c.min-seam.ensures front }
+
+pub returns-in_err-checked_add : goal.returns-in_err-checked_add
+returns-in_err-checked_add g c =
+    let parts = c.split_at_mut-front.ensures in
+    record {
+      len = parts_len _ _ c.min-seam.result _ parts.front_len parts.back_len;
+      within = none_given _ _ c.from_residual-in_err-checked_add.ensures;
+      bytes = λ _. none_given _ _ c.from_residual-in_err-checked_add.ensures;
+    }
+
+pub returns-in_err-in_back : goal.returns-in_err-in_back
+returns-in_err-in_back g c =
+    let parts = c.split_at_mut-front.ensures in
+    record {
+      len = parts_len _ _ c.min-seam.result _ parts.front_len
+          (ap (λ n. n + c.min-seam.result) c.fill_at.ensures.len ∙ parts.back_len);
+      within = none_given _ _ c.from_residual-in_err-in_back.ensures;
+      bytes = λ _. none_given _ _ c.from_residual-in_err-in_back.ensures;
+    }
+
+pub returns-in_err-move_on : goal.returns-in_err-move_on
+returns-in_err-move_on g c =
+    let parts = c.split_at_mut-front.ensures in
+    record {
+      len = parts_len _ _ c.min-seam.result _ (c.move_on.ensures.len ∙ parts.front_len)
+          (ap (λ n. n + c.min-seam.result) c.fill_at.ensures.len ∙ parts.back_len);
+      within = none_given _ _ c.from_residual-in_err-move_on.ensures;
+      bytes = λ _. none_given _ _ c.from_residual-in_err-move_on.ensures;
+    }
+
+pub returns-in_err-in_front : goal.returns-in_err-in_front
+returns-in_err-in_front g c =
+    let parts = c.split_at_mut-front.ensures in
+    record {
+      len = parts_len _ _ c.min-seam.result _ (c.fill_at-2.ensures.len ∙ (c.move_on.ensures.len ∙ parts.front_len))
+          (ap (λ n. n + c.min-seam.result) c.fill_at.ensures.len ∙ parts.back_len);
+      within = none_given _ _ c.from_residual-in_err-in_front.ensures;
+      bytes = λ _. none_given _ _ c.from_residual-in_err-in_front.ensures;
+    }
+
+pub returns-in_err-start : goal.returns-in_err-start
+returns-in_err-start g c = record {
+  len = refl;
+  within = none_given _ _ c.from_residual.ensures;
+  bytes = λ _. none_given _ _ c.from_residual.ensures;
+}

@@ -1,6 +1,8 @@
-use Rattle.std.proofs.Common.{◌≡◌, List, ℕ, ◌-◌, ◌/◌, ◌<◌, ◌≤◌, ◌^◌, [], length, sym, ap, subst, arith}
+use Rattle.std.proofs.Common.{◌+◌, ◌*◌, ◌∙◌, take, ◌≡◌, List, ℕ, ◌-◌, ◌/◌, ◌<◌, ◌≤◌, ◌^◌, [], length, sym, ap, subst, arith}
+use Rattle.std.proofs.lemmas.List.{length-take-le}
 use Rattle.std.specs.Prelude.{IfSome, Option}
 use Rattle.b3_core.specs.Chunks.{chaining_value_at}
+use Rattle.b3_hash.specs.OpenChunks.{chunk_state_len}
 use Rattle.b3_hash.specs.Private.{chunk_state_of}
 use Rattle.b3_hash.specs.ChunkHashers.{IsAllClosed, ChunkHasherState}
 use Rattle.b3_hash.proofs.Standing.{EndsWithChunk-begin, EndsWithWindow-begin}
@@ -55,3 +57,13 @@ returns-in-Some-clause-ends_with c = λ before closed more.
     before input rest closed.whole chunks.forward chunks.len chunks.rest more chunks.some short
     (chunks.values before closed.whole closed.stack)
     (c.begin.ensures.chunk_state inside.mode pushed.chunks reached.2)
+
+pub append-requires : goal.append-requires
+append-requires c =
+    let last = c.push_all_but_last-last in
+    let begun = c.self.inside.last in
+    let level : last.result.level ≡ 0 = omega (arith, c.if-last-gt0.false) in
+    let empty : 64 * begun.closed_blocks + length (take begun.block_len begun.block) ≡ 0 =
+    ap (λ (s : ChunkHasherState). chunk_state_len s.chunk_state) c.self.view_is ∙ c.requires.empty in
+    let len = length-take-le begun.block_len begun.block (omega (arith, begun.block_size, begun.block_fits)) in
+    omega (arith, empty, len, last.ensures.last, ap (λ k. 2 ^ k) level)

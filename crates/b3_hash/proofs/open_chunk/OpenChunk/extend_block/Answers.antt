@@ -1,6 +1,6 @@
-use Rattle.std.proofs.Common.{◌≡◌, ℕ, ◌+◌, ◌-◌, ◌≤◌, ap, sym, take, drop, replicate, ◌∙◌, ◌++◌, length, arith, refl}
+use Rattle.std.proofs.Common.{◌≡◌, ℕ, ◌+◌, ◌-◌, ◌≤◌, ap, sym, take, drop, replicate, ◌∙◌, ◌++◌, length, min, arith, refl}
+use Rattle.std.proofs.lemmas.List.{length-append, length-drop, drop-drop, drop-replicate, length-take}
 use Rattle.std.proofs.lemmas.Slice.{drop-put_mid, take-put_mid}
-use Rattle.std.proofs.lemmas.List.{drop-drop, drop-replicate, length-take}
 use borrow.Rule.Slice.PartMut.{put_mid}
 use Rattle.b3_hash.specs.Private.{chunk_state_of}
 use Rattle.b3_hash.proofs.ChunkStates.{HasBytes-append, IsChunkState-within}
@@ -38,3 +38,13 @@ invariant_of-self-clause-padding c =
     ∙ ap (drop (length piece)) self.padding
     ∙ drop-replicate (length piece) (64 - self.block_len) 0
     ∙ ap (λ n. replicate n 0) (omega arith)
+
+pub invariant_of-self-clause-block_size : goal.invariant_of-self-clause-block_size
+invariant_of-self-clause-block_size c =
+    let self = c.args.self.now in
+    let piece = c.copy_from_slice.new.self in
+    let count : ℕ = self.block_len + length c.args.piece.now - self.block_len in
+    let len : length (put_mid self.block_len count self.block piece)
+    ≡ min self.block_len (length self.block) + (length piece + (length self.block - self.block_len - count)) =
+    simp (length-append, length-drop, length-take) in
+    omega (arith, len, ap length c.copy_from_slice.ensures.after, self.block_size, c.requires.block)

@@ -1,4 +1,5 @@
-use Rattle.std.proofs.Common.{IsTrue, List, OnOk, Option, Result, Ok, Err, Some, [], ap, is_ok, length, refl, sym, ℕ, ◌∙◌}
+use Rattle.std.proofs.Common.{arith, IsTrue, List, OnOk, Option, Result, Ok, Err, Some, [], ap, is_ok, length, refl, sym, ℕ, ◌∙◌}
+use Rattle.std.proofs.lemmas.Bool.{leb-true}
 use Rattle.std.proofs.lemmas.Option.{slice_get_read}
 use Rattle.std.specs.Option.{option_map_or}
 use Rattle.b3_io.specs.declared.memory_shelf.StoredFile.{StoredFile}
@@ -21,3 +22,7 @@ returns-then-content-max_len-clause-content c = λ is.
           ∙ ap (λ (xs : List ℕ). Some xs) (sym c.as_slice-content.ensures.value);
       stands = on_ok c.update.result _ (rw c.is_ok.ensures.value at is) c.update.ensures.ok [] c.requires.fresh;
     }
+
+pub returns-else-content-max_len-clause-content : goal.returns-else-content-max_len-clause-content
+returns-else-content-max_len-clause-content c =
+    λ is. absurd (omega (arith, leb-true _ _ is, c.if-content-max_len.false))
