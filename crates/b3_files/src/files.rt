@@ -48,46 +48,6 @@ impl<D: Disk, I: Input> FileShelf<D, I> {
             failures: 0,
         }
     }
-
-    // The next bytes of what is begun. Nothing where it cannot be read on, and then nothing is begun.
-    fn read_next(&mut self, buffer: &mut [u8]) -> Option<usize>
-        requires buffer { 0 < length buffer.old }
-        ensures open { is_open self.new.source ≡ (is_open self.old.source && is_some result) }
-        ensures within { IfSome result (λ n. n ≤ length buffer.old) }
-        ensures bytes { IsTrue (source_tells D.File.tells I.tells I.File.tells self.old.source) → IfSome result (λ n.
-            Gives (source_left D.File.content I.content I.position I.File.content self.old.source self.old.consumed)
-            (take n buffer.new)
-            (source_left D.File.content I.content I.position I.File.content self.new.source self.new.consumed)) }
-        ensures not_open { is_open self.old.source ≡ false → result ≡ Some 0 }
-        ensures failures { self.new.failures ≡ self.old.failures }
-        ensures disk { self.new.disk ≡ self.old.disk }
-        ensures input { self.new.input ≡ self.old.input }
-        ensures input_taken { self.new.is_input_taken ≡ self.old.is_input_taken }
-    {
-        let Some(count) = self.source.read(self.consumed, buffer) else {
-            self.source = Source::Nothing;
-            return None;
-        };
-        let Some(consumed) = self.consumed.checked_add(count as u64) else {
-            self.source = Source::Nothing;
-            return None;
-        };
-        self.consumed = consumed;
-        Some(count)
-    }
-
-    // A call fails: no file is begun.
-    fn fail(&mut self)
-        requires { self.old.failures < 2 ^ 64 - 1 }
-        ensures count { self.new.failures ≡ self.old.failures + 1 }
-        ensures closed { is_open self.new.source ≡ false }
-        ensures disk { self.new.disk ≡ self.old.disk }
-        ensures input { self.new.input ≡ self.old.input }
-        ensures input_taken { self.new.is_input_taken ≡ self.old.is_input_taken }
-    {
-        self.source = Source::Nothing;
-        self.failures += 1;
-    }
 }
 
 // Why a name that cannot be opened gives no content: it is missing where no such name is there, and where what
@@ -184,24 +144,24 @@ impl<D: Disk, I: Input> Shelf for FileShelf<D, I> {
         ensures unread { self.new.input ≡ self.old.input }
     {
         // The file before is closed first: its number may be the one that the input had.
-        self.source = Source::Nothing;
+        self.source.turn_to(Source::Nothing);
         self.consumed = 0;
         if name != INPUT_NAME {
             match self.disk.open(name) {
-                Ok(file) => self.source = Source::Opened(file),
+                Ok(file) => self.source.turn_to(Source::Opened(file)),
                 Err(error) => {
-                    self.fail();
+                    self.failures += 1;
                     return Err(no_content_for(&error));
                 }
             }
             return Ok(());
         }
         if self.is_input_taken {
-            self.fail();
+            self.failures += 1;
             return Err(NoContent::CannotRead);
         }
         self.is_input_taken = true;
-        self.source = Source::of_input(self.input);
+        self.source.turn_to(Source::of_input(self.input));
         Ok(())
     }
 
@@ -220,8 +180,9 @@ impl<D: Disk, I: Input> Shelf for FileShelf<D, I> {
         ensures disk { self.new.disk ≡ self.old.disk }
         ensures input { self.new.input ≡ self.old.input }
     {
-        let Some(count) = self.read_next(buffer) else {
-            self.fail();
+        let Some(count) = self.source.read_on(&mut self.consumed, buffer) else {
+            self.source.turn_to(Source::Nothing);
+            self.failures += 1;
             return Err(CannotRead);
         };
         Ok(count)

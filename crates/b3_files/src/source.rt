@@ -19,6 +19,15 @@ pub enum Source<T, I, P> {
     Opened(T),
 }
 
+impl<T: Drop, I: Copy, P: Drop> Source<T, I, P> {
+    /// Closes what was read, and goes on with this.
+    pub fn turn_to(&mut self, source: Source<T, I, P>)
+        ensures { self.new ≡ source }
+    {
+        *self = source;
+    }
+}
+
 impl<T: DiskFile, I: Input<File = P>, P: DiskFile + Drop> Source<T, I, P> {
     /// An input of which nothing was read, as a plain file where it is one.
     pub fn of_input(input: I) -> Source<T, I, P>
@@ -36,8 +45,32 @@ impl<T: DiskFile, I: Input<File = P>, P: DiskFile + Drop> Source<T, I, P> {
         }
     }
 
-    /// The next bytes, where so many were given. Nothing where a read fails.
-    pub fn read(&mut self, consumed: u64, buffer: &mut [u8]) -> Option<usize>
+    /// The next bytes, where so many were given, which are counted with them. Nothing where a read fails.
+    pub fn read_on(&mut self, consumed: &mut u64, buffer: &mut [u8]) -> Option<usize>
+        requires buffer { 0 < length buffer.old }
+        requires at_consumed { IsTrue T.tells → source_position T.position self.old consumed.old ≡ consumed.old }
+        requires in_step { IsTrue I.tells → IsTrue P.tells
+            → input_side I.content I.position P.content self.old consumed.old
+            ≡ file_side P.content self.old consumed.old }
+        ensures within { IfSome result (λ n. n ≤ length buffer.old) }
+        ensures bytes { IsTrue (source_tells T.tells I.tells P.tells self.old) → IfSome result (λ n.
+            Gives (source_left T.content I.content I.position P.content self.old consumed.old) (take n buffer.new)
+            (source_left T.content I.content I.position P.content self.new consumed.new)) }
+        ensures not_open { is_open self.old ≡ false → result ≡ Some 0 }
+        ensures open { is_open self.new ≡ is_open self.old }
+        ensures at_consumed { IsTrue T.tells
+            → IfSome result (λ _. source_position T.position self.new consumed.new ≡ consumed.new) }
+        ensures in_step { IsTrue I.tells → IsTrue P.tells → IfSome result (λ _.
+            input_side I.content I.position P.content self.new consumed.new
+            ≡ file_side P.content self.new consumed.new) }
+    {
+        let count = self.read(*consumed, buffer)?;
+        *consumed = consumed.checked_add(count as u64)?;
+        Some(count)
+    }
+
+    // The next bytes, where so many were given. Nothing where a read fails.
+    fn read(&mut self, consumed: u64, buffer: &mut [u8]) -> Option<usize>
         requires buffer { 0 < length buffer.old }
         requires at_consumed { IsTrue T.tells → source_position T.position self.old consumed ≡ consumed }
         requires in_step { IsTrue I.tells → IsTrue P.tells

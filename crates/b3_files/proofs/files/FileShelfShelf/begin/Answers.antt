@@ -26,8 +26,8 @@ begun x is = cc
 
 pub returns-in-Err : goal.returns-in-Err
 returns-in-Err g c = record {
-  count = c.fail.ensures.count;
-  begun = c.fail.ensures.closed;
+  count = refl;
+  begun = rw c.turn_to.ensures refl;
   content = λ _ _ _. tt;
   missing = λ tells is.
       under_other (g.D.Disk.contents c.args.self.now.disk) _ c.args.name.now (differs c.args.name.now c.if-ne.ensures)
@@ -40,17 +40,19 @@ returns-in-Err g c = record {
   input = λ is. absurd (is_other c.args.name.now (sym (differs c.args.name.now c.if-ne.ensures)) is);
   input_there = λ is _. is_other c.args.name.now (sym (differs c.args.name.now c.if-ne.ensures)) is;
   input_taken = λ is. absurd (is_other c.args.name.now (sym (differs c.args.name.now c.if-ne.ensures)) is);
-  other = λ _. c.fail.ensures.input_taken;
-  disk = c.fail.ensures.disk;
-  unread = c.fail.ensures.input;
+  other = λ _. refl;
+  disk = refl;
+  unread = refl;
 }
 
 pub returns-then-ne : goal.returns-then-ne
 returns-then-ne g c = record {
   count = none_more _;
-  begun = refl;
+  begun = rw c.turn_to-in-Ok.ensures refl;
   content = λ tells _ _.
-      under_other (g.D.Disk.contents c.args.self.now.disk) _ c.args.name.now (differs c.args.name.now c.if-ne.ensures) ∙ c.in-Ok.ensures.content tells;
+      rw c.turn_to-in-Ok.ensures
+      (under_other (g.D.Disk.contents c.args.self.now.disk) _ c.args.name.now (differs c.args.name.now c.if-ne.ensures)
+      ∙ c.in-Ok.ensures.content tells);
   missing = λ _ is. absurd (begun _ is);
   refused = λ _. tt;
   input = λ is. absurd (is_other c.args.name.now (sym (differs c.args.name.now c.if-ne.ensures)) is);
@@ -63,26 +65,27 @@ returns-then-ne g c = record {
 
 pub returns-then-self : goal.returns-then-self
 returns-then-self g c = record {
-  count = c.fail-then-self.ensures.count;
-  begun = c.fail-then-self.ensures.closed;
+  count = refl;
+  begun = rw c.turn_to.ensures refl;
   content = λ _ _ _. tt;
   missing = λ _ is. absurd (not_missing is);
   refused = λ other. absurd (other (is_input c.args.name.now c.if-ne.ensures));
   input = λ _. (λ no. absurd (false≢true no), λ free. absurd (true≢false (sym c.if-self.true ∙ free)));
   input_there = λ _ is. not_missing is;
-  input_taken = λ _. c.fail-then-self.ensures.input_taken ∙ c.if-self.true;
-  other = λ _. c.fail-then-self.ensures.input_taken;
-  disk = c.fail-then-self.ensures.disk;
-  unread = c.fail-then-self.ensures.input;
+  input_taken = λ _. c.if-self.true;
+  other = λ _. refl;
+  disk = refl;
+  unread = refl;
 }
 
 pub returns : goal.returns
 returns g c = record {
   count = none_more _;
-  begun = c.of_input.ensures.open;
+  begun = rw c.turn_to-2.ensures c.of_input.ensures.open;
   content = λ _ input_tells file_tells.
-      under_input (g.D.Disk.contents c.args.self.now.disk) _ c.args.name.now (not-false _ (sym c.if-ne.ensures))
-      ∙ ap Some (sym (c.of_input.ensures.left input_tells file_tells g.D.File.Stream.content));
+      rw c.turn_to-2.ensures
+      (under_input (g.D.Disk.contents c.args.self.now.disk) _ c.args.name.now (not-false _ (sym c.if-ne.ensures))
+      ∙ ap Some (sym (c.of_input.ensures.left input_tells file_tells g.D.File.Stream.content)));
   missing = λ _ is. absurd (begun _ is);
   refused = λ _. tt;
   input = λ _. (λ _. c.if-self.false, λ _. refl);
