@@ -5,9 +5,10 @@ from dataclasses import dataclass
 # Chains of calls from `main` down: each function calls the next.
 TO_CALL = (("b3sum/src/main.rt", "main"), ("b3_call/src/call.rt", "call_with"))
 TO_SHELF = (*TO_CALL, ("b3_files/src/files.rt", "FileShelf::new"))
-TO_OUTPUT = (*TO_CALL, ("b3_files/src/outputs.rt", "OutputSink::new"))
-TO_TASK = (*TO_CALL, ("b3_call/src/call.rt", "run_call"), ("b3_call/src/run.rt", "run_words"),
-           ("b3_call/src/run.rt", "run_task"))
+TO_OVER = (*TO_CALL, ("b3_call/src/call.rt", "call_over"))
+TO_OUTPUT = (*TO_OVER, ("b3_files/src/outputs.rt", "OutputSink::new"))
+TO_RUN_CALL = (*TO_OVER, ("b3_call/src/call.rt", "call_beside"), ("b3_call/src/call.rt", "run_call"))
+TO_TASK = (*TO_RUN_CALL, ("b3_call/src/run.rt", "run_words"), ("b3_call/src/run.rt", "run_task"))
 TO_RUN = (*TO_TASK, ("b3_call/src/run.rt", "run_over_files"), ("b3_call/src/jobs.rt", "run_job"),
           ("b3_call/src/jobs.rt", "run_engine"))
 TO_GIVEN = (*TO_TASK, ("b3_call/src/run.rt", "run_over_files"), ("b3_io/src/operands.rt", "Operands::given"))
@@ -17,7 +18,8 @@ TO_SUM = (*TO_RUN, ("b3_check/src/sum.rt", "run_sum"))
 TO_CHECK = (*TO_RUN, ("b3_check/src/check.rt", "run_check"))
 TO_TEXT = (*TO_SUM, ("b3_check/src/sum.rt", "sum_names"), ("b3_check/src/sum.rt", "do_names"),
            ("b3_check/src/engine.rt", "Engine::run"), ("b3_check/src/engine.rt", "Engine::run_items"),
-           ("b3_check/src/engine.rt", "Engine::run_as"), ("b3_check/src/engine.rt", "Engine::do_in_turn"),
+           ("b3_check/src/engine.rt", "Engine::run_as"), ("b3_check/src/engine.rt", "Engine::do_items"),
+           ("b3_check/src/engine.rt", "Engine::do_in_turn"),
            ("b3_devices/src/devices.rt", "Devices::message_of"), ("b3_io/src/items.rt", "Request::message"),
            ("b3_io/src/message.rt", "Message::of_name"), ("b3_io/src/message.rt", "digest_text"))
 TO_PLAIN = (*TO_TEXT, ("b3_io/src/message.rt", "plain_line"), ("b3_lines/src/writing.rt", "write_line"))
@@ -122,7 +124,7 @@ LAWS = (
 CONTRACT = Law("The program's contract",
                "From the arguments to both outputs and the status, over a disk and an input that may tell.",
                (Clauses("b3_call/src/call.rt", "call_with"), Clauses("b3_call/src/call.rt", "run_call")),
-               ((*TO_CALL, ("b3_call/src/call.rt", "run_call")),))
+               (TO_RUN_CALL,))
 
 LIBRARIES = (
     Law("The hasher", "Any cutting of an input into pieces has the one output, from any place on.",

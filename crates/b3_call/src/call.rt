@@ -1,6 +1,6 @@
 //! A call of the program, from its arguments to its status.
 
-ghost use Rattle.std.specs.Prelude.{◌^◌, ◌<◌, ◌&&◌, IfErr, IfOk};
+ghost use Rattle.std.specs.Prelude.{◌≡◌, ◌^◌, ◌<◌, ◌&&◌, false, IfErr, IfOk};
 ghost use Rattle.b3_io.specs.Runs.{io_state};
 ghost use Rattle.b3_files.specs.Files.{contents_with, rest_of, told_if};
 ghost use Rattle.b3_call.specs.Calls.{AreWordsOf, CallsWith, EndsCall, IsStopOf, texts_in};
@@ -64,22 +64,95 @@ where
         (contents_with (D.contents disk) (rest_of I.content I.position input)))
         (O.contents out) (E.contents err) (O.contents result.out) (E.contents result.err) result.status }
 {
+    let shelf = FileShelf::new(disk, input);
+    call_over(rt, alloc, arguments, shelf, out, err, gate)
+}
+
+// The same over a shelf, of which nothing was asked.
+fn call_over<
+    R: Threads + Wait + Clock + Sync,
+    S: Shelf + Drop + Send + Sync,
+    O: Write + IsTerminal,
+    E: Write + IsTerminal + Copy + Send,
+    G: Gate + Sync,
+>(
+    rt: &R,
+    alloc: Global,
+    arguments: io::Result<Vec<String>>,
+    shelf: S,
+    out: O,
+    err: E,
+    gate: &G,
+) -> Called<O, E>
+    requires failures { S.failures shelf ≡ 0 }
+    requires not_sure { S.is_sure shelf ≡ false }
+    ensures { CallsWith (texts_in arguments) (S.told shelf) (O.contents out) (E.contents err)
+        (O.contents result.out) (E.contents result.err) result.status }
+{
     // Over a terminal each line is seen as soon as it is due.
     let is_gathering = !out.is_terminal();
     let is_terminal = err.is_terminal();
     let progress = Progress::new(alloc, rt, err, is_terminal);
-    let mut shelf = CountingShelf::new(alloc, FileShelf::new(disk, input), &progress);
     let out = OutputSink::new(out).gathering(is_gathering);
-    let mut out = ClearingSink::new(rt, out, !is_gathering, &progress);
-    let mut err = ClearingSink::new(rt, OutputSink::new(err), is_terminal, &progress);
-    let status = run_call(
-        rt, alloc, arguments, &mut shelf, &mut out, &mut err, gate, &progress,
+    let err = OutputSink::new(err);
+    let called = call_beside(
+        rt,
+        alloc,
+        arguments,
+        shelf,
+        out,
+        err,
+        is_terminal,
+        gate,
+        &progress,
     );
     progress.clear(rt);
     Called {
+        status: called.status,
+        out: called.out.into_writer(),
+        err: called.err.into_writer(),
+    }
+}
+
+// The same over two sinks also, of which none has failed, beside a line of progress. What the first says may wait unless it
+// goes to a terminal; `is_terminal` tells whether the second does.
+fn call_beside<
+    R: Threads + Wait + Sync,
+    S: Shelf + Drop + Send + Sync,
+    O: Sink,
+    E: Sink,
+    G: Gate + Sync,
+    C: Clock + Sync,
+    W: Write + Send,
+>(
+    rt: &R,
+    alloc: Global,
+    arguments: io::Result<Vec<String>>,
+    shelf: S,
+    out: O,
+    err: E,
+    is_terminal: bool,
+    gate: &G,
+    progress: &Progress<C, W>,
+) -> Called<O, E>
+    requires shelf_failures { S.failures shelf ≡ 0 }
+    requires not_sure { S.is_sure shelf ≡ false }
+    requires out_failures { O.failures out ≡ 0 }
+    requires err_failures { E.failures err ≡ 0 }
+    ensures { CallsWith (texts_in arguments) (S.told shelf) (O.held out) (E.held err)
+        (O.held result.out) (E.held result.err) result.status }
+{
+    let is_gathering = out.may_wait();
+    let mut shelf = CountingShelf::new(alloc, shelf, progress);
+    let mut out = ClearingSink::new(rt, out, !is_gathering, progress);
+    let mut err = ClearingSink::new(rt, err, is_terminal, progress);
+    let status = run_call(
+        rt, alloc, arguments, &mut shelf, &mut out, &mut err, gate, progress,
+    );
+    Called {
         status,
-        out: out.into_inner().into_writer(),
-        err: err.into_inner().into_writer(),
+        out: out.into_inner(),
+        err: err.into_inner(),
     }
 }
 

@@ -160,13 +160,38 @@ impl<'c, R: Threads + Wait + Sync, G: Gate + Sync> Engine<'c, R, G> {
         let mut ahead = Ahead::<I, L>::new(self.alloc);
         let crew = Crew::<I, L>::new(self.alloc);
         expect_names(&*devices.shelf, work);
-        'turns: while let Some(entry) = self.next_in_turn(
-            &crew,
-            devices,
-            &mut ahead,
-            work,
-            &mut saying,
-        )? {
+        self.do_items(&crew, devices, &mut ahead, work, &mut saying)
+    }
+
+    // Does the items that need their turn, and says what is known of the others, to the end. What a run owns is lent to it.
+    fn do_items<
+        L: RunInput + Send + Sync,
+        I: AnyItem + Send + Sync,
+        S: Shelf + Send + Sync,
+        O: Sink,
+        E: Sink,
+        P: WorkItems<I>,
+    >(
+        &mut self,
+        crew: &Crew<I, L>,
+        devices: &mut Devices<'_, '_, '_, S, O, E>,
+        ahead: &mut Ahead<I, L>,
+        work: &mut P,
+        saying: &mut Saying,
+    ) -> Result<Tally, RunFault>
+        requires range { L.range ≡ self.old.digester.range }
+        requires counted { saying.old.uncounted ≡ 0 }
+        requires before { IsUnderWay L.range L.tasks L.start (P.left work.old) (P.fits work.old L.range.length)
+            ahead.old (io_state_of S.Shelf O.Sink E.Sink devices.old) saying.old }
+        ensures run { Runs self.old.limits (tasks_script L.range L.tasks) L.start
+            (io_state_of S.Shelf O.Sink E.Sink devices.new) result }
+        ensures count { IfOk result (λ tally. counted tally ≤ 2 * length L.tasks) }
+        ensures shelf_count { S.failures devices.new.shelf.now ≤ L.start.failures + length L.tasks }
+        ensures loans { loans devices.new ≡ loans devices.old }
+        ensures limits { self.new.limits ≡ self.old.limits }
+        ensures range { self.new.digester.range ≡ self.old.digester.range }
+    {
+        'turns: while let Some(entry) = self.next_in_turn(crew, devices, ahead, work, saying)? {
             self.do_in_turn(devices, &*entry, &mut saying.lines, &mut saying.tally)?;
         }
         devices.write_lines(saying.lines.as_slice())?;

@@ -110,11 +110,6 @@ refill-requires-clause-few g c = c.requires.before.few
 pub refill-requires-clause-fits : goal.refill-requires-clause-fits
 refill-requires-clause-fits g c = c.items.invariant.before.fitting
 
-pub say_known-requires : goal.say_known-requires
-say_known-requires g c =
-    let taken = c.in_ok-refill.ensures in
-    record { before = under_way_taken c.items.invariant.before taken.left taken.next taken.fits }
-
 pub returns-then-len-eq0-clause-turn : goal.returns-then-len-eq0-clause-turn
 returns-then-len-eq0-clause-turn g c = tt
 

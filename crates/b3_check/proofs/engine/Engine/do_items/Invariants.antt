@@ -1,7 +1,7 @@
 use Rattle.std.proofs.Common.{◌≡◌, ◌-◌, length}
 use Rattle.b3_crew.specs.Crews.{IsUnderWay}
 use Rattle.b3_devices.specs.Devices.{io_state_of, loans}
-use Rattle.b3_check.proofs.engine.Engine.run_as.Given as goal
+use Rattle.b3_check.proofs.engine.Engine.do_items.Given as goal
 
 -- the run has come to the items that are taken
 abbrev pub invariant-turns : goal.invariant-turns
