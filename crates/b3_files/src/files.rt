@@ -1,11 +1,11 @@
-ghost use Rattle.std.specs.Prelude.{◌≡◌, ◌≢◌, ◌↔◌, ◌+◌, ◌-◌, ◌^◌, ◌<◌, ◌≤◌, ◌&&◌, [], true, false, Some, None, Err, IsTrue, IsSome, IsOk, OnOk, OnErr, IfOk, IfErr, IfSome, length, take, drop, is_err, is_ok, is_some, if◌then◌else◌};
+ghost use Rattle.std.specs.Prelude.{◌≡◌, ◌≢◌, ◌↔◌, ◌+◌, ◌-◌, ◌^◌, ◌<◌, ◌≤◌, ◌&&◌, [], true, false, Some, None, Err, IsTrue, IsOk, OnOk, IfOk, IfErr, length, take, is_err, is_ok, if◌then◌else◌};
 ghost use Rattle.std.specs.IoError.{error_kind};
-ghost use Rattle.b3_io.specs.Contents.{Gives, HasContent, StandsForContent, LacksContent, input_name};
+ghost use Rattle.b3_io.specs.Contents.{Gives, StandsForContent, input_name};
 ghost use Rattle.b3_io.specs.declared.shelf.NoContent.TheVariants.{Missing};
 ghost use Rattle.b3_hash.specs.Hashers.{StandsFor, mode_of};
 ghost use Rattle.b3_files.specs.Disks.{IsOfMissing, IsRefusedBy};
 ghost use Rattle.b3_files.specs.Files.{contents_with, rest_of, told_if};
-ghost use Rattle.b3_files.specs.Sources.{file_side, input_side, is_input, is_open, source_left, source_position, source_tells};
+ghost use Rattle.b3_files.specs.Sources.{file_side, input_side, is_open, source_left, source_position, source_tells};
 
 use crate::disk::{Disk, DiskFile, FileKind, Input};
 use crate::retrying::fill_at;
