@@ -4,6 +4,7 @@ from dataclasses import dataclass
 
 # Chains of calls from `main` down: each function calls the next.
 TO_CALL = (("b3sum/src/main.rt", "main"), ("b3_call/src/call.rt", "call_with"))
+TO_CODE = (TO_CALL[0], ("b3_call/src/call.rt", "Called::exit_code"))
 TO_SHELF = (*TO_CALL, ("b3_files/src/files.rt", "FileShelf::new"))
 TO_OVER = (*TO_CALL, ("b3_call/src/call.rt", "call_over"))
 TO_OUTPUT = (*TO_OVER, ("b3_files/src/outputs.rt", "OutputSink::new"))
@@ -84,7 +85,8 @@ LAWS = (
         "Where the status is 0, each name has the line of its content's digest, and each line of a list says that of its "
         "name.",
         (Clauses("b3_check/src/sum.rt", "run_sum", ("all_written",)),
-         Clauses("b3_check/src/check.rt", "run_check", ("all_verified",))), (TO_SUM, TO_CHECK)),
+         Clauses("b3_check/src/check.rt", "run_check", ("all_verified",)),
+         Clauses("b3_call/src/call.rt", "Called::exit_code")), (TO_SUM, TO_CHECK, TO_CODE)),
     Law("Which contents these are",
         "The program's shelf tells what its disk and its input tell, and its outputs tell what their writers hold, "
         "wrapped for progress or not.",
@@ -123,8 +125,9 @@ LAWS = (
 
 CONTRACT = Law("The program's contract",
                "From the arguments to both outputs and the status, over a disk and an input that may tell.",
-               (Clauses("b3_call/src/call.rt", "call_with"), Clauses("b3_call/src/call.rt", "run_call")),
-               (TO_RUN_CALL,))
+               (Clauses("b3_call/src/call.rt", "call_with"), Clauses("b3_call/src/call.rt", "run_call"),
+                Clauses("b3_call/src/call.rt", "Called::exit_code")),
+               (TO_RUN_CALL, TO_CODE))
 
 LIBRARIES = (
     Law("The hasher", "Any cutting of an input into pieces has the one output, from any place on.",

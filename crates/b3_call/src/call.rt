@@ -1,6 +1,7 @@
 //! A call of the program, from its arguments to its status.
 
 ghost use Rattle.std.specs.Prelude.{◌≡◌, ◌^◌, ◌<◌, ◌&&◌, false, IfErr, IfOk};
+ghost use Rattle.std.specs.Process.{exit_status};
 ghost use Rattle.b3_io.specs.Runs.{io_state};
 ghost use Rattle.b3_files.specs.Files.{contents_with, rest_of, told_if};
 ghost use Rattle.b3_call.specs.Calls.{AreWordsOf, CallsWith, EndsCall, IsStopOf, texts_in};
@@ -14,6 +15,7 @@ use b3_program::{Stop, Words};
 use b3_progress::Progress;
 use std::alloc::Global;
 use std::io::{self, IsTerminal, Write};
+use std::process::ExitCode;
 use std::rt::{Clock, Stderr, Stdout};
 use std::sync::Wait;
 use std::thread::Threads;
@@ -34,6 +36,15 @@ pub struct Called<O, E> {
     pub status: u8,
     pub out: O,
     pub err: E,
+}
+
+impl<O, E> Called<O, E> {
+    /// The code that ends the program with the status of the call.
+    pub fn exit_code(&self) -> ExitCode
+        ensures code { exit_status result ≡ self.now.status }
+    {
+        ExitCode::from(self.status)
+    }
 }
 
 /// Does what the arguments of a call ask for, over a disk, an input and two outputs.

@@ -11,17 +11,15 @@ use b3_files::{INPUT_PATHS, RealDisk, RealInput};
 use std::process::ExitCode;
 
 fn main(rt: HostRuntime) -> ExitCode {
-    ExitCode::from(
-        call_with(
-            &rt,
-            rt.alloc(),
-            arguments(&rt, rt.alloc()),
-            RealDisk::new(&rt),
-            RealInput::new(&rt, rt.stdin(), INPUT_PATHS),
-            rt.stdout(),
-            rt.stderr(),
-            &OpenGate,
-        )
-        .status,
+    call_with(
+        &rt,
+        rt.alloc(),
+        arguments(&rt, rt.alloc()),
+        RealDisk::new(&rt),
+        RealInput::new(&rt, rt.stdin(), INPUT_PATHS),
+        rt.stdout(),
+        rt.stderr(),
+        &OpenGate,
     )
+    .exit_code()
 }
