@@ -5,3 +5,7 @@ use Rattle.b3_progress.proofs.progress_text.first_columns.Goals as goal
 
 pub loop-character-init : goal.loop-character-init
 loop-character-init c = omega (arith, ap columns_of c.new-front.ensures.bytes, columns_of-none)
+
+pub loop-character-preserved : goal.loop-character-preserved
+loop-character-preserved c =
+    omega (arith, c.if-width-gt-MAX_COLUMNS.false, c.width.ensures.value, ap columns_of c.as_str.ensures.value)
